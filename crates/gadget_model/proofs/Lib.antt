@@ -1,0 +1,5 @@
+pub mod Values
+pub mod SameBits
+pub mod Distributions
+pub mod Projections
+pub mod Simulations
