@@ -59,7 +59,7 @@ assignments-some (suc n) =
     let m = length-map (λ (r : List Bool). false ∷ r) (assignments n) in
     omega arith
 
-Contains-only : (probes : List ℕ) (v w : ℕ) → Contains probes v → Contains (v ∷ []) w → Contains probes w
+pub Contains-only : (probes : List ℕ) (v w : ℕ) → Contains probes v → Contains (v ∷ []) w → Contains probes w
 Contains-only probes v w among (zero, less, e) = let P : ℕ → Type 0 = λ z. Contains probes z in subst P e among
 Contains-only probes v w among (suc k, less, e) = absurd (omega arith)
 
@@ -70,8 +70,8 @@ only k j = eqb j k
 eqb-same : (k : ℕ) → eqb k k ≡ true
 eqb-same k = elim (eqb_tells k k) [ inl same ↦ same.0 | inr other ↦ absurd (other.1 refl) ]
 
--- a probe on share k in the clear, at two inputs that differ there
-told_apart : (g : Circuit) (v : ℕ) (x x' : ℕ → Bool) → ((r : List Bool) → value g x r v ≡ true) → ((r : List Bool) → value g x' r v ≡ false) →
+-- a probe that is always true at the one input and always false at the other
+pub told_apart : (g : Circuit) (v : ℕ) (x x' : ℕ → Bool) → ((r : List Bool) → value g x r v ≡ true) → ((r : List Bool) → value g x' r v ≡ false) →
     SameDistribution (distribution g (v ∷ []) x) (distribution g (v ∷ []) x') → ⊥
 told_apart g v x x' on off same =
     let test : List Bool → Bool = same_bits (true ∷ []) in

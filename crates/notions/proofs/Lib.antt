@@ -1,0 +1,4 @@
+pub mod ShareCounts
+pub mod ShareSums
+pub mod RowsStand
+pub mod Least
