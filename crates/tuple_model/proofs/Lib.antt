@@ -1,0 +1,7 @@
+pub mod Members
+pub mod Rising
+pub mod Ranks
+pub mod Subsets
+pub mod Picking
+pub mod Answers
+mod Examples
