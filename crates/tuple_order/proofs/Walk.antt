@@ -1,9 +1,9 @@
 -- The steps from the empty tuple on go through all tuples, in order.
-use Rattle.std.proofs.Common.{◌≡◌, ℕ, zero, suc, ◌+◌, ◌<◌, ◌≤◌, Bool, true, false, cond, ltb, List, [], ◌∷◌, ◌++◌, map, length, Option, Some, None, refl, ap, sym, ◌∙◌, inl, inr, arith, subst, Contains}
+use Rattle.std.proofs.Common.{◌≡◌, ℕ, zero, suc, ◌+◌, ◌<◌, ◌≤◌, Bool, cond, ltb, List, [], ◌∷◌, ◌++◌, map, length, Option, Some, None, refl, ap, sym, ◌∙◌, inl, inr, arith, subst, Contains}
 use Rattle.std.specs.List.{slice_get}
 use Rattle.std.specs.Option.{option_or, option_map}
 use Rattle.std.proofs.lemmas.Bool.{cases_lt, lt-ltb, le-ltb}
-use Rattle.tuple_model.specs.Tuples.{IsTuple, rising, tuples}
+use Rattle.tuple_model.specs.Tuples.{rising, tuples}
 use Rattle.tuple_model.proofs.Members.{Contains-cons_head, Contains-cons_tail}
 use Rattle.tuple_model.proofs.Rising.{IsRisingOfSize-from_member, IsTuple-from_member}
 use Rattle.tuple_order.specs.Steps.{numbers_from, next_of_size, first_of_size, next_tuple}
@@ -27,14 +27,14 @@ front high low size start (t ∷ ts) rest after sizes last h k =
     let P : Option (List ℕ) → Type 0 = λ s. Follows (next_of_size high) s (map (λ t. low ∷ t) ts ++ rest) in (
       ap (λ (s : Option (List ℕ)). option_or (option_map (λ t. low ∷ t) s) after) h.0,
       subst P (ap (option_or (option_map (λ t. low ∷ t) (next_of_size high t))) (sym e))
-      (front high low size (next_of_size high t) ts rest after (λ u g. sizes u (Contains-cons_tail t ts u g)) last h.1 k),
+          (front high low size (next_of_size high t) ts rest after (λ u g. sizes u (Contains-cons_tail t ts u g)) last h.1 k),
     )
 
 -- where there is a first list of a size, and where there is none
-first_of_size-none : (size room low : ℕ) → room < size → first_of_size size room low ≡ None
+pub first_of_size-none : (size room low : ℕ) → room < size → first_of_size size room low ≡ None
 first_of_size-none size room low l = ap (λ (b : Bool). cond b None (Some (numbers_from low size))) (lt-ltb room size l)
 
-first_of_size-some : (size room low : ℕ) → size ≤ room → first_of_size size room low ≡ Some (numbers_from low size)
+pub first_of_size-some : (size room low : ℕ) → size ≤ room → first_of_size size room low ≡ Some (numbers_from low size)
 first_of_size-some size room low l = ap (λ (b : Bool). cond b None (Some (numbers_from low size))) (le-ltb room size l)
 
 walk_of_size : (size room low : ℕ) → Follows (next_of_size (low + room)) (first_of_size size room low) (rising size room low)

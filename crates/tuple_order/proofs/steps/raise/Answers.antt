@@ -1,4 +1,3 @@
-use Rattle.std.proofs.Common.{◌≡◌}
 use Rattle.tuple_order.proofs.Raising.{next_of_size-written, next_of_size-none}
 use Rattle.tuple_order.proofs.steps.raise.Goals as goal
 
