@@ -8,7 +8,9 @@ use Rattle.gadget_model.specs.Bits.{same_bits, assignments}
 use Rattle.gadget_model.specs.Circuit.{share, Circuit, nodes, value, IsInOrder}
 use Rattle.gadget_model.specs.Simulation.{observation, distribution, SameDistribution, HasShare, IsWithin, AgreeOn, IsSimulatable, HasAllShares}
 use Rattle.gadget_model.proofs.Values.{value-node, value-same}
-use Rattle.gadget_model.proofs.Distributions.{count_by-map, count_by-same, count_by-all, count_by-none, map-map}
+use Rattle.std.proofs.lemmas.List.{length-map}
+use Rattle.list_laws.proofs.Counts.{count_by-map, count_by-all, count_by-none, map-map, map-same}
+use Rattle.gadget_model.proofs.Distributions.{count_by-same}
 use Rattle.gadget_model.proofs.Projections.{picked, places}
 
 -- fewer probes are simulatable from more shares
@@ -26,10 +28,6 @@ IsSimulatable-fewer g probes fewer set more sim within wider x x' agree y =
     ∙ sym (count_by-map (picked p.0) (same_bits y) (distribution g probes x'))
     ∙ ap (count_by (same_bits y)) (e x')
 
-map-same : {A B : Type 0} (f g : A → B) → ((a : A) → f a ≡ g a) → (xs : List A) → map f xs ≡ map g xs
-map-same f g h [] = refl
-map-same f g h (x ∷ xs) = let i = map-same f g h xs in let k = h x in cc
-
 -- where the probes have the same values at both inputs, whatever the randoms are, the distributions are the same
 pub distribution-same : (g : Circuit) (probes : List ℕ) (x x' : ℕ → Bool) → ((r : List Bool) → observation g probes x r ≡ observation g probes x' r) →
     SameDistribution (distribution g probes x) (distribution g probes x')
@@ -46,17 +44,13 @@ pub IsSimulatable-nil : (g : Circuit) → IsSimulatable g [] 0
 unfolding IsSimulatable
 IsSimulatable-nil g x x' agree = distribution-same g [] x x' (λ r. refl)
 
-length-map : {A B : Type 0} (f : A → B) (xs : List A) → length (map f xs) ≡ length xs
-length-map f [] = refl
-length-map f (x ∷ xs) = let i = length-map f xs in omega arith
-
 -- there is some assignment
 assignments-some : (n : ℕ) → 0 < length (assignments n)
 assignments-some zero = omega arith
 assignments-some (suc n) =
     let i = assignments-some n in
     let l = length-append (map (λ r. false ∷ r) (assignments n)) (map (λ r. true ∷ r) (assignments n)) in
-    let m = length-map (λ (r : List Bool). false ∷ r) (assignments n) in
+    let m = length-map (assignments n) (λ (r : List Bool). false ∷ r) in
     omega arith
 
 pub Contains-only : (probes : List ℕ) (v w : ℕ) → Contains probes v → Contains (v ∷ []) w → Contains probes w

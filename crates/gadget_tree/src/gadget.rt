@@ -1,6 +1,6 @@
 //! Gadgets: masked circuits, written flat.
 
-ghost use Rattle.std.specs.Prelude.{◌≡◌, ℕ, ◌+◌, ◌*◌, ◌/◌, ◌%◌, ◌<◌, map, length, slice_index};
+ghost use Rattle.std.specs.Prelude.{◌≤◌, ◌≡◌, ℕ, ◌+◌, ◌*◌, ◌/◌, ◌%◌, ◌<◌, map, length, slice_index};
 ghost use Rattle.gadget_tree.specs.Seen.{variables_of};
 ghost use Rattle.gadget_tree.specs.Gadgets.{IsGadget};
 
@@ -35,7 +35,9 @@ impl Model for Gadget {
 impl Gadget {
     /// Into how many shares each input and output is split.
     pub fn shares(&self) -> u8
-        ensures { result ≡ self.now.shares }
+        ensures shares { result ≡ self.now.shares }
+        ensures some { 1 ≤ result }
+        ensures few { result ≤ 16 }
     {
         self.shares
     }
@@ -49,14 +51,16 @@ impl Gadget {
 
     /// The names of the inputs.
     pub fn inputs(&self) -> &[Name]
-        ensures { result.now ≡ self.now.inputs }
+        ensures inputs { result.now ≡ self.now.inputs }
+        ensures few { length result.now ≤ 4 }
     {
         &self.inputs
     }
 
     /// The names of the outputs.
     pub fn outputs(&self) -> &[Name]
-        ensures { result.now ≡ self.now.outputs }
+        ensures outputs { result.now ≡ self.now.outputs }
+        ensures few { length result.now ≤ 2 }
     {
         &self.outputs
     }

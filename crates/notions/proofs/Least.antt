@@ -1,16 +1,16 @@
 -- The least set of input shares from which probes can be simulated.
-use Rattle.std.proofs.Common.{◌≡◌, ℕ, zero, suc, ◌<◌, ◌≤◌, ◌⊎◌, Bool, true, false, eqb, List, [], ◌∷◌, ◌++◌, length, refl, ap, sym, ◌∙◌, inl, inr, arith, max}
-use Rattle.std.specs.Prelude.{bit_or, slice_index, Contains, All, fold, map}
+use Rattle.std.proofs.Common.{◌≡◌, ℕ, zero, suc, ◌<◌, ◌≤◌, ◌⊎◌, Bool, false, eqb, List, [], ◌∷◌, length, refl, ap, sym, ◌∙◌, inl, inr, arith}
+use Rattle.std.specs.Prelude.{bit_or, slice_index, Contains, fold, map}
 use Rattle.std.specs.Int.{bit_at}
 use Rattle.std.proofs.lemmas.Bool.{cases_lt}
 use Rattle.std.proofs.lemmas.Bool.Decides.{eqb_tells}
 use Rattle.std.proofs.lemmas.Nat.Bits.{bit_at-lt, bit_at_or, bit_at-zero, bit_at_above}
 use Rattle.gadget_model.specs.Circuit.{Circuit, value}
-use Rattle.gadget_model.specs.Simulation.{observation, HasShare, IsWithin, AgreeOn, IsSimulatable}
+use Rattle.gadget_model.specs.Simulation.{HasShare, IsWithin, AgreeOn, IsSimulatable}
 use Rattle.gadget_model.proofs.Simulations.{IsSimulatable-fewer, distribution-same, told_apart, Contains-only}
-use Rattle.gadget_model.proofs.Projections.{Contains-head, Contains-tail}
-use Rattle.notions.specs.Rows.{sum_of_shares, StandFor, union_of}
-use Rattle.notions.specs.Ni.{shares_of, IsGranted, Fails, Passes}
+use Rattle.list_laws.proofs.Members.{Contains-cons_head, Contains-cons_tail}
+use Rattle.notions.specs.Rows.{StandFor, union_of}
+use Rattle.notions.specs.Ni.{IsGranted, Fails, Passes}
 use Rattle.notions.proofs.ShareSums.{sum_of_shares-agree, sum_of_shares-only, sum_of_shares-none, only}
 use Rattle.notions.proofs.ShareCounts.{shares_of-within}
 
@@ -49,16 +49,16 @@ joined-share rows [] set k h = inl h
 joined-share rows (v ∷ vars) set k h = elim (joined-share rows vars (bit_or set (slice_index rows v)) k h) [
   | inl one ↦ elim (HasShare-or set (slice_index rows v) k one) [
     | inl s ↦ inl s
-    | inr t ↦ inr (v, Contains-head v vars, t)
+    | inr t ↦ inr (v, Contains-cons_head v vars, t)
   ]
-  | inr (w, among, t) ↦ inr (w, Contains-tail v vars w among, t)
+  | inr (w, among, t) ↦ inr (w, Contains-cons_tail v vars w among, t)
 ]
 
 map-along : (f g : ℕ → Bool) (vars : List ℕ) → ((v : ℕ) → Contains vars v → f v ≡ g v) → map f vars ≡ map g vars
 map-along f g [] h = refl
 map-along f g (v ∷ vars) h =
-    let a = h v (Contains-head v vars) in
-    let b = map-along f g vars (λ w k. h w (Contains-tail v vars w k)) in
+    let a = h v (Contains-cons_head v vars) in
+    let b = map-along f g vars (λ w k. h w (Contains-cons_tail v vars w k)) in
     cc
 
 module _ (g : Circuit) (rows vars : List ℕ) (stand : StandFor g rows) (there : (v : ℕ) → Contains vars v → v < length rows) where

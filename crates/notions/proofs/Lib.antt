@@ -2,3 +2,4 @@ pub mod ShareCounts
 pub mod ShareSums
 pub mod RowsStand
 pub mod Least
+pub mod Checks

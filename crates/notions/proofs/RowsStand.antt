@@ -1,14 +1,14 @@
 -- The row that is made of a variable stands for it.
-use Rattle.std.proofs.Common.{◌≡◌, ℕ, zero, suc, ◌+◌, ◌*◌, ◌^◌, ◌<◌, ◌≤◌, Bool, List, [], ◌∷◌, ◌++◌, length, get_or, refl, ap, sym, ◌∙◌, inl, inr, arith, subst, Some, map}
-use Rattle.std.specs.Prelude.{slice_get, slice_index, bit_xor, All}
+use Rattle.std.proofs.Common.{◌≡◌, ℕ, ◌^◌, ◌<◌, Bool, List, [], ◌∷◌, ◌++◌, length, get_or, refl, ap, sym, ◌∙◌, inl, inr, arith, subst, Some, map}
+use Rattle.std.specs.Prelude.{slice_get, slice_index}
 use Rattle.std.specs.Option.{option_map}
 use Rattle.std.proofs.lemmas.Bool.{cases_lt}
 use Rattle.std.proofs.lemmas.Nat.{xor_lt}
 use Rattle.std.proofs.lemmas.List.{get_or_append_left, get_or_push, length_push}
-use Rattle.std.proofs.lemmas.Option.{slice_get-map, slice_get_read}
+use Rattle.std.proofs.lemmas.Option.{slice_get-map, slice_get_read, slice_get_within, get_or_from_slice_get}
 use Rattle.std.proofs.Math.Pow.{pow-lt}
 use Rattle.gadget_model.specs.Bits.{add}
-use Rattle.gadget_model.specs.Circuit.{Node, share, random, copy, sum_of, product_of, Variable, Circuit, nodes, value, IsInOrder, NamesEarlier}
+use Rattle.gadget_model.specs.Circuit.{Node, share, random, copy, sum_of, product_of, Variable, Circuit, nodes, value, IsInOrder}
 use Rattle.gadget_model.proofs.Values.{value-node}
 use Rattle.gadget_tree.specs.declared.var.Var.{Var}
 use Rattle.gadget_tree.specs.Seen.{node_of, variable_of, variables_of}
@@ -23,6 +23,11 @@ IsSumNode-from_linear g good (random k) h = h
 IsSumNode-from_linear g good (copy a) h = tt
 IsSumNode-from_linear g good (sum_of a b) h = tt
 IsSumNode-from_linear g good (product_of a b) h = h
+
+pub IsSumNode-at : (g : Circuit) → IsGadget g → (i : ℕ) (v : Node) → slice_get (nodes g) i ≡ Some v → IsSumNode v
+IsSumNode-at g good i v at =
+    let P : Node → Type 0 = λ w. IsLinearNode g w in
+    IsSumNode-from_linear g good v (subst P (get_or_from_slice_get (nodes g) i v v at) (good.linear i v (slice_get_within (nodes g) i v at)))
 
 -- the sum that the row of a node says, where each earlier row stands for its variable
 pub row_of-value : (g : Circuit) → IsInOrder g → (rows : List ℕ) → StandFor g rows → (v : Node) → slice_get (nodes g) (length rows) ≡ Some v → IsSumNode v →

@@ -1,34 +1,18 @@
 -- How many shares of an input are in a set.
-use Rattle.std.proofs.Common.{◌≡◌, ℕ, zero, suc, ◌+◌, ◌*◌, ◌/◌, ◌%◌, ◌^◌, ◌<◌, ◌≤◌, Bool, true, false, cond, eqb, List, [], ◌∷◌, refl, ap, sym, ◌∙◌, inl, inr, ◌⊎◌, arith, subst, add-one}
+use Rattle.std.proofs.Common.{◌≡◌, ℕ, zero, suc, ◌+◌, ◌*◌, ◌/◌, ◌%◌, ◌^◌, ◌<◌, ◌≤◌, Bool, eqb, refl, ap, sym, ◌∙◌, inl, inr, arith, add-one}
 use Rattle.std.specs.Prelude.{count_by, bit_and}
 use Rattle.std.specs.List.{range_with_len}
 use Rattle.std.specs.Int.{bit_at}
 use Rattle.std.specs.Int.Count.{ones, ones_step}
-use Rattle.std.proofs.lemmas.Bool.{cases_Bool, cases_lt}
+use Rattle.std.proofs.lemmas.Bool.{cases_lt}
 use Rattle.std.proofs.lemmas.Bool.Decides.{eqb_tells}
 use Rattle.std.proofs.lemmas.Nat.{and_mask, pow-add, ones_le_self}
 use Rattle.std.proofs.lemmas.Nat.Bits.{bit_at-lt, bit_at-suc, bit_at_lowest}
 use Rattle.std.proofs.Math.Nat.{div-div-eq-div-mul}
 use Rattle.std.proofs.Math.Pow.{field, mod-mod-pow}
-use Rattle.gadget_model.specs.Simulation.{HasShare, IsWithin}
-use Rattle.gadget_model.proofs.Distributions.{one_if, count_by-cons}
+use Rattle.gadget_model.specs.Simulation.{IsWithin}
+use Rattle.list_laws.proofs.Counts.{one_if, count_by-cons, count_by-le, count_by-agree}
 use Rattle.notions.specs.Ni.{shares_of}
-
-count_by-le : {A : Type 0} (p q : A → Bool) → ((x : A) → p x ≡ true → q x ≡ true) → (xs : List A) → count_by p xs ≤ count_by q xs
-count_by-le p q h [] = omega arith
-count_by-le p q h (x ∷ xs) =
-    let i = count_by-le p q h xs in
-    let e = count_by-cons p x xs in
-    let f = count_by-cons q x xs in
-    elim (cases_Bool (p x)) [
-      | inl holds ↦ let u = ap one_if holds in let v = ap one_if (h x holds) in omega arith
-      | inr fails ↦ let u = ap one_if fails in omega arith
-    ]
-
-count_by-agree : {A : Type 0} (p q : A → Bool) → ((x : A) → p x ≡ q x) → (xs : List A) → count_by p xs ≡ count_by q xs
-count_by-agree p q h [] = refl
-count_by-agree p q h (x ∷ xs) =
-    count_by-cons p x xs ∙ ap (λ (b : Bool). one_if b + count_by p xs) (h x) ∙ ap (λ (n : ℕ). one_if (q x) + n) (count_by-agree p q h xs) ∙ sym (count_by-cons q x xs)
 
 -- whether a number has a bit
 abbrev has : ℕ → ℕ → Bool

@@ -1,12 +1,12 @@
 -- Sums of input shares.
-use Rattle.std.proofs.Common.{◌≡◌, ℕ, zero, suc, ◌+◌, ◌%◌, ◌^◌, ◌<◌, ◌≤◌, Bool, true, false, ◌&&◌, eqb, not, refl, ap, sym, ◌∙◌, inl, inr, ◌⊎◌, arith, subst}
+use Rattle.std.proofs.Common.{◌≡◌, ℕ, zero, suc, ◌+◌, ◌%◌, ◌^◌, ◌<◌, ◌≤◌, Bool, true, false, ◌&&◌, eqb, not, refl, ap, sym, ◌∙◌, inl, inr, ◌⊎◌, arith}
 use Rattle.std.specs.Prelude.{bit_xor}
 use Rattle.std.specs.Int.{bit_at}
 use Rattle.std.proofs.lemmas.Bool.{cases_lt, cases_eq}
 use Rattle.std.proofs.lemmas.Bool.Decides.{eqb_tells}
 use Rattle.std.proofs.lemmas.Nat.Bits.{bit_at-lt, bit_at_xor, bit_at-pow_same, bit_at-pow_other}
 use Rattle.gadget_model.specs.Bits.{add}
-use Rattle.gadget_model.specs.Simulation.{HasShare, AgreeOn}
+use Rattle.gadget_model.specs.Simulation.{AgreeOn}
 use Rattle.gadget_model.proofs.Sums.{add-false, add-middle, and-add_left}
 use Rattle.notions.specs.Rows.{sum_of_shares}
 

@@ -1,5 +1,5 @@
 -- Rows: a variable of a gadget without randoms and products as a sum of input shares.
-use Rattle.std.specs.Prelude.{◌≡◌, ℕ, zero, suc, ◌^◌, ◌<◌, ◌==◌, Bool, false, ◌&&◌, List, [], length, slice_index, bit_xor, bit_or, fold}
+use Rattle.std.specs.Prelude.{◌≡◌, ℕ, zero, suc, ◌^◌, ◌<◌, ◌==◌, Bool, false, ◌&&◌, List, length, slice_index, bit_xor, bit_or, fold}
 use Rattle.std.specs.Int.{bit_at}
 use Rattle.gadget_model.specs.Bits.{add}
 use Rattle.gadget_model.specs.Circuit.{Circuit, Node, share, random, copy, sum_of, product_of, value}

@@ -1,0 +1,6 @@
+pub mod Rising
+pub mod Ranks
+pub mod Subsets
+pub mod Picking
+pub mod Answers
+mod Examples
