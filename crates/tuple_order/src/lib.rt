@@ -1,7 +1,9 @@
 //! Tuples as the code has them: the steps from each to the next, and their subsets.
 #![tactic(auto)]
 
+mod counts;
 mod steps;
 mod tuples;
 
+pub use counts::count;
 pub use tuples::{Tuple, next, subset};
