@@ -7,3 +7,6 @@ mod tuples;
 
 pub use counts::count;
 pub use tuples::{Tuple, next, subset};
+
+#[cfg(test)]
+mod tests;
