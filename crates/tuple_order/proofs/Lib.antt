@@ -1,5 +1,6 @@
-pub mod Raising
-pub mod Walk
-pub mod Stepping
-pub mod Placing
+pub mod Counting
 pub mod Keeping
+pub mod Placing
+pub mod Raising
+pub mod Stepping
+pub mod Walk
