@@ -25,9 +25,9 @@ pub fn read_whole<S: Source>(
     ensures end { OnOk result (IsAtEnd (S.left source.new)) }
     ensures short { IfOk result (λ bytes. vec_len bytes ≤ max) }
 
-    // When each error comes.
+    // When each error comes. Of these two only `TooLong` has read past `max`, by one byte.
     ensures fault { result ≡ Err ReadError.ReadFault → Rose (S.faults source.old) (S.faults source.new) }
-    ensures in_time { result ≡ Err ReadError.ReadFault → LosesAtMost (S.left source.old) (S.left source.new) max }
+    ensures within { result ≡ Err ReadError.ReadFault → LosesAtMost (S.left source.old) (S.left source.new) max }
     ensures long { result ≡ Err ReadError.TooLong → IsLonger (S.left source.old) max }
     ensures one_more { result ≡ Err ReadError.TooLong → LosesCount (S.left source.old) (S.left source.new) (max + 1) }
 
