@@ -1,4 +1,4 @@
-pub mod Faults
+pub mod Counts
 pub mod Flow
 pub mod MemSource
 pub mod MemSink

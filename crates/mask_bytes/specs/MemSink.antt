@@ -1,6 +1,6 @@
 -- What contracts see of a sink in memory, and what a call takes.
-use Rattle.std.specs.Prelude.{◌≡◌, ℕ, List, length, min, ◌⊎◌, Contains}
-use Rattle.mask_bytes.specs.Faults.{next_call}
+use Rattle.std.specs.Prelude.{◌≡◌, ℕ, List, min, ◌⊎◌, Contains}
+use Rattle.mask_bytes.specs.Counts.{next_call}
 
 -- what was written, how many bytes there is still room for, the most that a call takes, the numbers of the
 -- calls that fail, how many calls were made, and how many of them failed

@@ -9,12 +9,16 @@ use std::alloc::{AllocError, AllocFailed};
 pub struct OutOfMemory;
 
 impl From<AllocError> for OutOfMemory {
+    ghost from_gives = { λ _ error. error ≡ record {} };
+
     fn from(_error: AllocError) -> OutOfMemory {
         OutOfMemory
     }
 }
 
 impl<T: Drop> From<AllocFailed<T>> for OutOfMemory {
+    ghost from_gives = { λ _ error. error ≡ record {} };
+
     fn from(_error: AllocFailed<T>) -> OutOfMemory {
         OutOfMemory
     }

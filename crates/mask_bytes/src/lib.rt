@@ -12,10 +12,9 @@ mod sink;
 mod source;
 mod standard;
 mod sure_source;
-mod whole;
-
 #[cfg(test)]
 mod tests;
+mod whole;
 
 pub use error::{Failed, OutOfMemory, ReadError};
 pub use mem_sink::MemSink;

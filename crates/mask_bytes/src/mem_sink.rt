@@ -1,6 +1,6 @@
 //! A sink in memory with little room, which takes short pieces and fails at the calls that it is told.
 ghost use Rattle.std.specs.Prelude.{◌≡◌, ◌↔◌, ◌+◌, ◌-◌, ◌<◌, ◌≤◌, [], ◌++◌, length, take, IfOk, IsErr, OnErr};
-ghost use Rattle.mask_bytes.specs.Faults.{next_call, raised};
+ghost use Rattle.mask_bytes.specs.Counts.{next_call, raised_count};
 
 use crate::error::{Failed, OutOfMemory};
 use crate::sink::Sink;
@@ -10,7 +10,7 @@ use std::marker::Model;
 /// A sink that keeps what is written, in room that is reserved when it is made. Contracts see what was written,
 /// the room that is left, the most that a call takes, the numbers of the calls that fail, and how many calls were
 /// made and failed.
-#[derive(Drop)]
+#[derive(Debug, Drop)]
 pub struct MemSink {
     bytes: Vec<u8>,
     room: usize,
@@ -27,12 +27,12 @@ impl Model for MemSink {
     ghost Value = { MemSinkState };
 
     ghost view = { λ s. record {
-        written = s.bytes.items;
-        room = s.room;
-        most = s.most;
-        fails = s.fails.items;
-        calls = s.calls;
-        faults = s.faults
+      written = s.bytes.items;
+      room = s.room;
+      most = s.most;
+      fails = s.fails.items;
+      calls = s.calls;
+      faults = s.faults;
     } };
 
     ghost invariant = { λ s. (vec_len s.bytes + s.room ≤ vec_capacity s.bytes) × (1 ≤ s.most) };
@@ -49,12 +49,12 @@ impl MemSink {
     ) -> Result<MemSink, OutOfMemory>
         requires { 1 ≤ most }
         ensures { IfOk result (λ sink. sink ≡ record {
-            written = [];
-            room = room;
-            most = most;
-            fails = fails.items;
-            calls = 0;
-            faults = 0
+          written = [];
+          room = room;
+          most = most;
+          fails = fails.items;
+          calls = 0;
+          faults = 0;
         }) }
     {
         Ok(MemSink {
@@ -95,13 +95,13 @@ impl Sink for MemSink {
         ensures fails { IsErr result ↔ NextFails self.old }
         ensures count { IfOk result (λ count. count ≡ taken_count self.old (length piece.now)) }
         ensures ok { IfOk result (λ count. self.new ≡ record self.old {
-            written = self.old.written ++ take count piece.now;
-            room = self.old.room - count;
-            calls = next_call self.old.calls
+          written = self.old.written ++ take count piece.now;
+          room = self.old.room - count;
+          calls = next_call self.old.calls;
         }) }
         ensures err { OnErr result (self.new ≡ record self.old {
-            calls = next_call self.old.calls;
-            faults = raised self.old.faults
+          calls = next_call self.old.calls;
+          faults = raised_count self.old.faults;
         }) }
 
         // What the trait promises beside these.

@@ -1,6 +1,6 @@
 //! A source in memory that gives short pieces, and fails at the calls that it is told.
 ghost use Rattle.std.specs.Prelude.{◌≡◌, ◌↔◌, ◌<◌, ◌≤◌, [], length, take, drop, min, Contains, IfOk, IsErr, OnErr};
-ghost use Rattle.mask_bytes.specs.Faults.{next_call, raised};
+ghost use Rattle.mask_bytes.specs.Counts.{next_call, raised_count};
 
 use crate::error::Failed;
 use crate::source::Source;
@@ -8,7 +8,7 @@ use std::marker::Model;
 
 /// A source over bytes in memory. Contracts see what is left, the most that a call gives, the numbers of the
 /// calls that fail, and how many calls were made and failed.
-#[derive(Drop)]
+#[derive(Debug, Drop)]
 pub struct MemSource {
     bytes: Vec<u8>,
     at: usize,
@@ -25,11 +25,11 @@ impl Model for MemSource {
     ghost Value = { MemSourceState };
 
     ghost view = { λ s. record {
-        left = drop s.at s.bytes.items;
-        most = s.most;
-        fails = s.fails.items;
-        calls = s.calls;
-        faults = s.faults
+      left = drop s.at s.bytes.items;
+      most = s.most;
+      fails = s.fails.items;
+      calls = s.calls;
+      faults = s.faults;
     } };
 
     ghost invariant = { λ s. (s.at ≤ length s.bytes.items) × (1 ≤ s.most) };
@@ -41,11 +41,11 @@ impl MemSource {
     pub fn make(bytes: Vec<u8>, most: usize, fails: Vec<u32>) -> MemSource
         requires { 1 ≤ most }
         ensures { result ≡ record {
-            left = bytes.items;
-            most = most;
-            fails = fails.items;
-            calls = 0;
-            faults = 0
+          left = bytes.items;
+          most = most;
+          fails = fails.items;
+          calls = 0;
+          faults = 0;
         } }
     {
         MemSource {
@@ -73,12 +73,12 @@ impl Source for MemSource {
         ensures count { IfOk result (λ count. count ≡ given_count self.old (length buf.new)) }
         ensures bytes { IfOk result (λ count. take count buf.new ≡ take count self.old.left) }
         ensures ok { IfOk result (λ count. self.new ≡ record self.old {
-            left = drop count self.old.left;
-            calls = next_call self.old.calls
+          left = drop count self.old.left;
+          calls = next_call self.old.calls;
         }) }
         ensures err { OnErr result (self.new ≡ record self.old {
-            calls = next_call self.old.calls;
-            faults = raised self.old.faults
+          calls = next_call self.old.calls;
+          faults = raised_count self.old.faults;
         }) }
 
         // What the trait promises beside these.

@@ -1,7 +1,7 @@
 //! Where bytes go.
 ghost use Rattle.std.specs.Prelude.{◌≡◌, ℕ, ◌<◌, ◌≤◌, List, length, take, Option, IfOk, OnErr};
 ghost use Rattle.std.specs.Io.KnownBytes.{append_known};
-ghost use Rattle.mask_bytes.specs.Faults.{Rose};
+ghost use Rattle.mask_bytes.specs.Counts.{Rose};
 
 use crate::error::Failed;
 

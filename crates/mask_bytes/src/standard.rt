@@ -1,5 +1,6 @@
 //! Sources and sinks over std's readers and writers.
-ghost use Rattle.std.specs.Prelude.{◌≡◌};
+ghost use Rattle.std.specs.Prelude.{◌≡◌, ◌<◌, ◌≤◌, length, IfOk, OnOk, OnErr};
+ghost use Rattle.mask_bytes.specs.Counts.{raised_count};
 
 use crate::error::Failed;
 use crate::sink::Sink;
@@ -8,7 +9,7 @@ use std::io::{Read, Write};
 use std::marker::Model;
 
 /// A source over a reader. It tells no bytes, and contracts see how many reads failed.
-#[derive(Drop)]
+#[derive(Debug, Drop)]
 pub struct StdSource<T> {
     reader: T,
     faults: u64,
@@ -38,7 +39,12 @@ impl<T: Read> Source for StdSource<T> {
 
     ghost faults = { λ faults. faults };
 
-    fn read(&mut self, buf: &mut [u8]) -> Result<usize, Failed> {
+    fn read(&mut self, buf: &mut [u8]) -> Result<usize, Failed>
+        ensures bound { IfOk result (λ count. count ≤ length buf.new) }
+        ensures ok { OnOk result (self.new ≡ self.old) }
+        ensures err { OnErr result (self.new ≡ raised_count self.old) }
+        ensures never_falls { self.old ≤ self.new }
+    {
         match self.reader.read(buf) {
             Ok(count) => Ok(count),
             Err(_) => {
@@ -50,7 +56,7 @@ impl<T: Read> Source for StdSource<T> {
 }
 
 /// A sink over a writer. It tells no bytes, and contracts see how many writes failed.
-#[derive(Drop)]
+#[derive(Debug, Drop)]
 pub struct StdSink<T> {
     writer: T,
     faults: u64,
@@ -80,7 +86,13 @@ impl<T: Write> Sink for StdSink<T> {
 
     ghost faults = { λ faults. faults };
 
-    fn write(&mut self, piece: &[u8]) -> Result<usize, Failed> {
+    fn write(&mut self, piece: &[u8]) -> Result<usize, Failed>
+        ensures some { IfOk result (λ count. 0 < count) }
+        ensures bound { IfOk result (λ count. count ≤ length piece.now) }
+        ensures ok { OnOk result (self.new ≡ self.old) }
+        ensures err { OnErr result (self.new ≡ raised_count self.old) }
+        ensures never_falls { self.old ≤ self.new }
+    {
         match self.writer.write(piece) {
             Ok(count) if count > 0 => Ok(count),
             _ => {

@@ -6,7 +6,7 @@ use crate::source::Source;
 use std::marker::Model;
 
 /// A source over bytes in memory that gives as many as are asked for. Contracts see what is left.
-#[derive(Drop)]
+#[derive(Debug, Drop)]
 pub struct SureSource {
     bytes: Vec<u8>,
     at: usize,

@@ -1,8 +1,8 @@
 //! Whole reads and whole writes.
 ghost use Rattle.std.specs.Prelude.{◌≡◌, ◌+◌, ◌≤◌, [], length, vec_len, IfOk, IfSome, OnOk, OnErr, IsOk};
 ghost use Rattle.std.specs.Io.KnownBytes.{append_known, IsAtEnd};
-ghost use Rattle.mask_bytes.specs.Faults.{Rose};
-ghost use Rattle.mask_bytes.specs.Flow.{LeavesSuffix, LosesCount, IsLonger, AppendsProperPrefix};
+ghost use Rattle.mask_bytes.specs.Counts.{Rose};
+ghost use Rattle.mask_bytes.specs.Flow.{LeavesSuffix, LosesCount, LosesAtMost, IsLonger, AppendsProperPrefix};
 
 use crate::error::{Failed, ReadError};
 use crate::sink::Sink;
@@ -25,12 +25,13 @@ pub fn read_whole<S: Source>(
     ensures end { OnOk result (IsAtEnd (S.left source.new)) }
     ensures short { IfOk result (λ bytes. vec_len bytes ≤ max) }
 
-    // When each error comes.
+    // When each error comes. Of these two only `TooLong` has read past `max`, by one byte.
     ensures fault { result ≡ Err ReadError.ReadFault → Rose (S.faults source.old) (S.faults source.new) }
+    ensures within { result ≡ Err ReadError.ReadFault → LosesAtMost (S.left source.old) (S.left source.new) max }
     ensures long { result ≡ Err ReadError.TooLong → IsLonger (S.left source.old) max }
     ensures one_more { result ≡ Err ReadError.TooLong → LosesCount (S.left source.old) (S.left source.new) (max + 1) }
 
-    // How the source ends, whatever the result.
+    // What becomes of the source, whatever the result.
     ensures rest { LeavesSuffix (S.left source.old) (S.left source.new) }
     ensures never_falls { S.faults source.old ≤ S.faults source.new }
 {

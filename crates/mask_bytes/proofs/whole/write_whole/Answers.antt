@@ -1,4 +1,4 @@
-use Rattle.std.proofs.Common.{◌≡◌, ◌<◌, ℕ, length, take, drop, arith, ap, ◌∙◌, List}
+use Rattle.std.proofs.Common.{◌≡◌, ℕ, length, take, arith, ap, ◌∙◌, List}
 use Rattle.std.proofs.lemmas.List.{length-drop, take_rest}
 use Rattle.std.specs.Io.KnownBytes.{append_known}
 use Rattle.mask_bytes.proofs.KnownBytes.{append_known_more}
