@@ -1,6 +1,7 @@
 //! The check of a gadget file: from words and bytes to a report and a status.
 #![tactic(auto)]
 
+mod minimal;
 mod report;
 pub mod status;
 pub mod words;

@@ -1,8 +1,9 @@
 -- What a check knows of the probes that it is asked about.
-use Rattle.std.proofs.Common.{◌≡◌, ℕ, ◌<◌, ◌≤◌, Bool, false, not, List, length, get_or, ap, sym, ◌∙◌, arith, subst, ◌↔◌}
+use Rattle.std.proofs.Common.{◌≡◌, ℕ, ◌<◌, ◌≤◌, Bool, false, not, List, length, get_or, ap, sym, ◌∙◌, arith, subst, inl, inr, ◌↔◌}
 use Rattle.std.specs.Prelude.{IsTrue, Contains, All}
 use Rattle.std.proofs.lemmas.Bool.{not-true, not-false, false≢true}
 use Rattle.std.proofs.lemmas.List.Elements.{Contains-get_or}
+use Rattle.gadget_model.specs.Circuit.{Circuit}
 use Rattle.tuple_model.specs.Tuples.{IsRising}
 use Rattle.tuple_model.proofs.Rising.{IsRising-member}
 use Rattle.notions.specs.declared.ni.NiCheck.TheInside.{Inside}
@@ -46,3 +47,8 @@ module _ (q : Query) (i : Inside) (seen : query_of i ≡ q) (ready : IsPrepared 
       let Q : ℕ → Type 0 = λ z. IsGranted i.gadget.now i.t z in
       subst P seen (Fails-union i.gadget.now i.rows.items vars ready.stand there i.t few
       (λ all. false≢true (sym (not-true granted refused) ∙ test.1 (λ input l. subst Q (sym e) all input (let n = ready.inputs in omega arith)))))
+
+-- what passes doesn't fail
+pub not_Fails-from_Passes : (g : Circuit) (t : ℕ) (probes : List ℕ) → Passes g t probes → Fails g t probes → ⊥
+not_Fails-from_Passes g t probes (inl more) f = let few = f.few in absurd (omega arith)
+not_Fails-from_Passes g t probes (inr (set, granted, simulated)) f = f.not_simulatable set granted simulated
