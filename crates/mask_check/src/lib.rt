@@ -1,8 +1,10 @@
 //! The check of a gadget file: from words and bytes to a report and a status.
 #![tactic(auto)]
 
+pub mod line;
 mod report;
 pub mod status;
 pub mod words;
 
+pub use line::Line;
 pub use status::{Status, UsageKind};
