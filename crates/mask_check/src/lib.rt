@@ -7,4 +7,5 @@ pub mod status;
 pub mod words;
 
 pub use line::Line;
-pub use status::{Status, UsageKind};
+pub use status::{Status, UsageKind, exit_status, status_text};
+pub use words::settings;

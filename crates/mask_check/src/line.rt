@@ -5,7 +5,7 @@ ghost use Rattle.std.specs.Prelude.{◌≡◌, ℕ, ◌+◌, ◌≤◌, [], ◌+
 use std::marker::Model;
 
 /// A text of at most 120 bytes, which takes no memory beyond its own. Contracts see its bytes.
-#[derive(Drop)]
+#[derive(Debug, Drop)]
 pub struct Line {
     buffer: [u8; 120],
     used: usize,
