@@ -1,9 +1,12 @@
 //! The check of a gadget file: from words and bytes to a report and a status.
 #![tactic(auto)]
 
+pub mod line;
 mod minimal;
 mod report;
 pub mod status;
 pub mod words;
 
-pub use status::{Status, UsageKind};
+pub use line::Line;
+pub use status::{Status, UsageKind, exit_status, status_text};
+pub use words::settings;

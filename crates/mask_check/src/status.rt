@@ -1,6 +1,11 @@
-//! How a check ends.
+//! How a check ends, and what the program's caller sees of it.
 
+ghost use Rattle.std.specs.Prelude.{◌≡◌, ◌++◌, codes, decimal};
+ghost use Rattle.mask_check.specs.Texts.{text_of, exit_of};
+
+use crate::line::Line;
 use gadget_tree::FileError;
+use itoa::Buffer;
 
 /// What is wrong with the words of the command line.
 #[derive(Clone, Copy, Debug, PartialEq, Eq, Drop)]
@@ -28,4 +33,87 @@ pub enum Status {
     ReadFault,
     WriteFault,
     OutOfMemory,
+}
+
+/// Puts the text of a status, without a line feed, in place of what `out` holds. It is empty where there is a report.
+pub fn status_text(status: &Status, out: &mut Line)
+    ensures { out.new ≡ text_of status.now }
+{
+    match status {
+        Status::Yes | Status::No => out.set(b""),
+        Status::Usage(UsageKind::Words) => out.set(b"mask: usage: mask TASK ARG [options]"),
+        Status::Usage(UsageKind::Task) => out.set(b"mask: unknown task"),
+        Status::Usage(UsageKind::Argument) => out.set(b"mask: bad argument"),
+        Status::File(FileError::NotYet(line)) => set_not_yet(*line, out),
+        Status::TooLong => out.set(b"mask: file too long"),
+        Status::ReadFault => out.set(b"mask: read failed"),
+        Status::WriteFault => out.set(b"mask: write failed"),
+        Status::OutOfMemory | Status::File(FileError::OutOfMemory) => {
+            out.set(b"mask: out of memory")
+        }
+    }
+}
+
+fn set_not_yet(line: u32, out: &mut Line)
+    ensures { out.new ≡ codes "mask: line " ++ decimal line ++ codes ": not built yet" }
+{
+    let mut digits = Buffer::new();
+    out.set(b"mask: line ");
+    out.push(digits.format(line).as_bytes());
+    out.push(b": not built yet");
+}
+
+/// The exit status of the program.
+pub fn exit_status(status: &Status) -> u8
+    ensures { result ≡ exit_of status.now }
+{
+    match status {
+        Status::Yes => 0,
+        Status::No => 1,
+        Status::Usage(_) => 2,
+        Status::File(FileError::NotYet(_)) | Status::TooLong => 3,
+        Status::ReadFault => 6,
+        Status::WriteFault => 7,
+        Status::OutOfMemory | Status::File(FileError::OutOfMemory) => 8,
+    }
+}
+
+#[cfg(test)]
+mod tests {
+    use super::*;
+
+    #[test]
+    fn each_status_has_its_text_and_exit_status(rt: HostRuntime) {
+        let table: [(Status, &[u8], u8); 11] = [
+            (Status::Yes, b"", 0),
+            (
+                Status::Usage(UsageKind::Words),
+                b"mask: usage: mask TASK ARG [options]",
+                2,
+            ),
+            (Status::No, b"", 1),
+            (Status::Usage(UsageKind::Task), b"mask: unknown task", 2),
+            (Status::Usage(UsageKind::Argument), b"mask: bad argument", 2),
+            (
+                Status::File(FileError::NotYet(4294967295)),
+                b"mask: line 4294967295: not built yet",
+                3,
+            ),
+            (
+                Status::File(FileError::OutOfMemory),
+                b"mask: out of memory",
+                8,
+            ),
+            (Status::TooLong, b"mask: file too long", 3),
+            (Status::ReadFault, b"mask: read failed", 6),
+            (Status::WriteFault, b"mask: write failed", 7),
+            (Status::OutOfMemory, b"mask: out of memory", 8),
+        ];
+        let mut line = Line::new();
+        for (status, text, exit) in table {
+            status_text(&status, &mut line);
+            assert_eq!(rt; line.bytes(), text, "at {status:?}");
+            assert_eq!(rt; exit_status(&status), exit, "at {status:?}");
+        }
+    }
 }

@@ -1,0 +1,50 @@
+-- What the caller of the program sees of a status: a line of text, which begins with the program's name, and an exit status.
+use Rattle.std.specs.Prelude.{ℕ, List, [], ◌++◌, codes, decimal}
+use Rattle.gadget_tree.specs.declared.file_error.FileError.{FileError}
+use Rattle.gadget_tree.specs.declared.file_error.FileError.TheVariants as file_error
+use Rattle.mask_check.specs.declared.status.UsageKind.{UsageKind}
+use Rattle.mask_check.specs.declared.status.UsageKind.TheVariants.{Words, Task, Argument}
+use Rattle.mask_check.specs.declared.status.Status.{Status}
+use Rattle.mask_check.specs.declared.status.Status.TheVariants.{Yes, No, Usage, File, TooLong, ReadFault, WriteFault, OutOfMemory}
+
+-- what is wrong with the command line
+abbrev pub usage_text : UsageKind → List ℕ
+usage_text Words = codes "mask: usage: mask TASK ARG [options]"
+usage_text Task = codes "mask: unknown task"
+usage_text Argument = codes "mask: bad argument"
+
+-- the same wherever memory ran out
+abbrev pub out_of_memory_text : List ℕ
+out_of_memory_text = codes "mask: out of memory"
+
+-- why the file is refused, with the number of the line
+abbrev pub file_text : FileError → List ℕ
+file_text (file_error.NotYet line) = codes "mask: line " ++ decimal line ++ codes ": not built yet"
+file_text file_error.OutOfMemory = out_of_memory_text
+
+-- The text of a status says why there is no report, and is empty where there is one. It has no line feed.
+abbrev pub text_of : Status → List ℕ
+text_of Yes = []
+text_of No = []
+text_of (Usage kind) = usage_text kind
+text_of (File error) = file_text error
+text_of TooLong = codes "mask: file too long"
+text_of ReadFault = codes "mask: read failed"
+text_of WriteFault = codes "mask: write failed"
+text_of OutOfMemory = out_of_memory_text
+
+-- A file that is refused gives 3; where memory ran out while it was read, the exit status is 8, as elsewhere.
+abbrev pub file_exit : FileError → ℕ
+file_exit (file_error.NotYet line) = 3
+file_exit file_error.OutOfMemory = 8
+
+-- The exit status: 0 for the verdict yes, 1 for no, 2 for the command line, 3 for the file, 6 for a read, 7 for a write, 8 for memory.
+abbrev pub exit_of : Status → ℕ
+exit_of Yes = 0
+exit_of No = 1
+exit_of (Usage kind) = 2
+exit_of (File error) = file_exit error
+exit_of TooLong = 3
+exit_of ReadFault = 6
+exit_of WriteFault = 7
+exit_of OutOfMemory = 8
