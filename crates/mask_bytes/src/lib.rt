@@ -1,8 +1,9 @@
-//! Bytes in and out of the verifier: where they come from, where they go, and whole reads and writes.
+//! Bytes in and out of the verifier: where they come from, where they go, and whole reads and
+//! writes.
 //!
-//! A `Source` and a `Sink` count their faults, so that a caller can tell a failure that an object had from one
-//! that code above made up. Objects in memory tell their bytes, and contracts say what became of these; objects
-//! over std's readers and writers tell none.
+//! A `Source` and a `Sink` count their faults, so that a caller can tell a failure that an object
+//! had from one that code above made up. Objects in memory tell their bytes, and contracts say what
+//! became of these; objects over std's readers and writers tell none.
 #![tactic(auto)]
 
 mod error;

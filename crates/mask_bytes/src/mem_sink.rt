@@ -1,4 +1,5 @@
-//! A sink in memory with little room, which takes short pieces and fails at the calls that it is told.
+//! A sink in memory with little room, which takes short pieces and fails at the calls that it is
+//! told.
 ghost use Rattle.std.specs.Prelude.{◌≡◌, ◌↔◌, ◌+◌, ◌-◌, ◌<◌, ◌≤◌, [], ◌++◌, length, take, IfOk, IsErr, OnErr};
 ghost use Rattle.mask_bytes.specs.Counts.{next_call, raised_count};
 
@@ -7,9 +8,9 @@ use crate::sink::Sink;
 use std::alloc::Global;
 use std::marker::Model;
 
-/// A sink that keeps what is written, in room that is reserved when it is made. Contracts see what was written,
-/// the room that is left, the most that a call takes, the numbers of the calls that fail, and how many calls were
-/// made and failed.
+/// A sink that keeps what is written, in room that is reserved when it is made. Contracts see what
+/// was written, the room that is left, the most that a call takes, the numbers of the calls that
+/// fail, and how many calls were made and failed.
 #[derive(Debug, Drop)]
 pub struct MemSink {
     bytes: Vec<u8>,
@@ -39,8 +40,9 @@ impl Model for MemSink {
 }
 
 impl MemSink {
-    /// An empty sink with room for `room` bytes, which takes at most `most` of them in a call. Calls are numbered
-    /// from 1 up to 4,294,967,295, a number that all later calls have too; those whose number is in `fails` fail.
+    /// An empty sink with room for `room` bytes, which takes at most `most` of them in a call.
+    /// Calls are numbered from 1 up to 4,294,967,295, a number that all later calls have too; those
+    /// whose number is in `fails` fail.
     pub fn make(
         alloc: Global,
         room: usize,

@@ -1,13 +1,13 @@
 //! A source in memory that gives short pieces, and fails at the calls that it is told.
-ghost use Rattle.std.specs.Prelude.{◌≡◌, ◌↔◌, ◌<◌, ◌≤◌, [], length, take, drop, min, Contains, IfOk, IsErr, OnErr};
+ghost use Rattle.std.specs.Prelude.{◌≡◌, ◌↔◌, ◌<◌, ◌≤◌, [], length, take, drop, Contains, IfOk, IsErr, OnErr};
 ghost use Rattle.mask_bytes.specs.Counts.{next_call, raised_count};
 
 use crate::error::Failed;
 use crate::source::Source;
 use std::marker::Model;
 
-/// A source over bytes in memory. Contracts see what is left, the most that a call gives, the numbers of the
-/// calls that fail, and how many calls were made and failed.
+/// A source over bytes in memory. Contracts see what is left, the most that a call gives, the
+/// numbers of the calls that fail, and how many calls were made and failed.
 #[derive(Debug, Drop)]
 pub struct MemSource {
     bytes: Vec<u8>,
@@ -36,8 +36,9 @@ impl Model for MemSource {
 }
 
 impl MemSource {
-    /// A source over `bytes` that gives at most `most` of them in a call. Calls are numbered from 1 up to
-    /// 4,294,967,295, a number that all later calls have too; those whose number is in `fails` fail.
+    /// A source over `bytes` that gives at most `most` of them in a call. Calls are numbered from 1
+    /// up to 4,294,967,295, a number that all later calls have too; those whose number is in
+    /// `fails` fail.
     pub fn make(bytes: Vec<u8>, most: usize, fails: Vec<u32>) -> MemSource
         requires { 1 ≤ most }
         ensures { result ≡ record {

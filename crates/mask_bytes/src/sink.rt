@@ -7,8 +7,8 @@ use crate::error::Failed;
 
 /// A place to write bytes to.
 ///
-/// `written` are the bytes written so far, where the sink tells them; whether it does never changes. `faults` is
-/// a count that rises at each failure, and never falls.
+/// `written` are the bytes written so far, where the sink tells them; whether it does never
+/// changes. `faults` is a count that rises at each failure, and never falls.
 pub trait Sink {
     ghost written: { Self → Option (List ℕ) };
 
@@ -21,7 +21,8 @@ pub trait Sink {
         // What was taken of the piece stands behind what was written before.
         ensures some { IfOk result (λ count. 0 < count) }
         ensures bound { IfOk result (λ count. count ≤ length piece.now) }
-        ensures appended { IfOk result (λ count. written self.new ≡ append_known (written self.old) (take count piece.now)) }
+        ensures appended { IfOk result
+            (λ count. written self.new ≡ append_known (written self.old) (take count piece.now)) }
 
         // A failure writes nothing, and is counted.
         ensures unchanged { OnErr result (written self.new ≡ written self.old) }

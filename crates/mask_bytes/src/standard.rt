@@ -71,7 +71,8 @@ impl<T> Model for StdSink<T> {
 }
 
 impl<T: Write> StdSink<T> {
-    /// A sink that writes to `writer`. Each of the writer's errors is a failure, and so is a write of no bytes.
+    /// A sink that writes to `writer`. Each of the writer's errors is a failure, and so is a write
+    /// of no bytes.
     pub fn make(writer: T) -> StdSink<T>
         ensures { result ≡ 0 }
     {

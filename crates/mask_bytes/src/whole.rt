@@ -12,7 +12,8 @@ use std::alloc::Global;
 /// How many bytes a single read asks for at most.
 const BUFFER_LENGTH: usize = 4096;
 
-/// Reads to the end of the source, up to `max` bytes. To tell that there are more it reads one byte past `max`.
+/// Reads to the end of the source, up to `max` bytes. To tell that there are more it reads one byte
+/// past `max`.
 pub fn read_whole<S: Source>(
     alloc: Global,
     source: &mut S,
@@ -26,10 +27,13 @@ pub fn read_whole<S: Source>(
     ensures short { IfOk result (λ bytes. vec_len bytes ≤ max) }
 
     // When each error comes. Of these two only `TooLong` has read past `max`, by one byte.
-    ensures fault { result ≡ Err ReadError.ReadFault → Rose (S.faults source.old) (S.faults source.new) }
-    ensures within { result ≡ Err ReadError.ReadFault → LosesAtMost (S.left source.old) (S.left source.new) max }
+    ensures fault { result ≡ Err ReadError.ReadFault
+        → Rose (S.faults source.old) (S.faults source.new) }
+    ensures within { result ≡ Err ReadError.ReadFault
+        → LosesAtMost (S.left source.old) (S.left source.new) max }
     ensures long { result ≡ Err ReadError.TooLong → IsLonger (S.left source.old) max }
-    ensures one_more { result ≡ Err ReadError.TooLong → LosesCount (S.left source.old) (S.left source.new) (max + 1) }
+    ensures one_more { result ≡ Err ReadError.TooLong
+        → LosesCount (S.left source.old) (S.left source.new) (max + 1) }
 
     // What becomes of the source, whatever the result.
     ensures rest { LeavesSuffix (S.left source.old) (S.left source.new) }
@@ -50,8 +54,10 @@ pub fn read_whole<S: Source>(
 
 /// Writes all of `bytes`, in as many writes as the sink needs, and none where there are no bytes.
 pub fn write_whole<K: Sink>(sink: &mut K, bytes: &[u8]) -> Result<(), Failed>
-    ensures whole { OnOk result (K.written sink.new ≡ append_known (K.written sink.old) bytes.now) }
-    ensures prefix { OnErr result (AppendsProperPrefix (K.written sink.old) (K.written sink.new) bytes.now) }
+    ensures whole { OnOk result
+        (K.written sink.new ≡ append_known (K.written sink.old) bytes.now) }
+    ensures prefix { OnErr result
+        (AppendsProperPrefix (K.written sink.old) (K.written sink.new) bytes.now) }
     ensures fault { OnErr result (Rose (K.faults sink.old) (K.faults sink.new)) }
     ensures never_falls { K.faults sink.old ≤ K.faults sink.new }
 
