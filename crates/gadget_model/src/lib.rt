@@ -19,7 +19,7 @@ pub fn monotone_law()
 
 /// Any probes are simulatable from all input shares.
 pub fn all_shares_law()
-    ensures { (g : Circuit) (probes : List ℕ) (set : ℕ) → IsInOrder g → HasAllShares g set → IsSimulatable g probes set }
+    ensures { (g : Circuit) (probes : List ℕ) (set : ℕ) → HasAllShares g set → IsSimulatable g probes set }
 {}
 
 /// No probes are simulatable from no shares.

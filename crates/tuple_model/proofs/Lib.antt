@@ -1,4 +1,3 @@
-pub mod Members
 pub mod Rising
 pub mod Ranks
 pub mod Subsets

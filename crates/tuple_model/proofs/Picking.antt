@@ -4,7 +4,7 @@ use Rattle.std.specs.List.{slice_get}
 use Rattle.std.proofs.lemmas.List.{take_more}
 use Rattle.std.proofs.lemmas.Option.{slice_get_within, get_or_from_slice_get}
 use Rattle.tuple_model.specs.Minimal.{Picks}
-use Rattle.tuple_model.proofs.Members.{Contains-cons_head, Contains-cons_tail, Contains-cons_cases}
+use Rattle.list_laws.proofs.Members.{Contains-cons_head, Contains-cons_tail, Contains-cons_cases}
 
 pub Picks-unique : {X : Type 0} (P : X → Type 0) (xs a b : List X) → Picks P xs a → Picks P xs b → a ≡ b
 Picks-unique P [] a b h k = h ∙ sym k

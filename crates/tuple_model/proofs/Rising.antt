@@ -4,7 +4,7 @@ use Rattle.std.specs.List.{AllPairs}
 use Rattle.std.proofs.lemmas.Bool.{cases_lt}
 use Rattle.std.proofs.lemmas.List.Elements.{Contains-append_left, Contains-append_right, Contains-append_cases}
 use Rattle.tuple_model.specs.Tuples.{IsRising, IsTuple, ComesFirst, IsBefore, rising, tuples}
-use Rattle.tuple_model.proofs.Members.{Contains-cons_head, Contains-cons_cases, Contains-map, Contains-from_map, AllPairs-append, AllPairs-map, AllPairs-weaker}
+use Rattle.list_laws.proofs.Members.{Contains-cons_head, Contains-cons_cases, Contains-map, Contains-from_map, AllPairs-append, AllPairs-map, AllPairs-weaker}
 
 pub IsRising-from_higher : (low more high : ℕ) (t : List ℕ) → low ≤ more → IsRising more high t → IsRising low high t
 IsRising-from_higher low more high [] l h = tt

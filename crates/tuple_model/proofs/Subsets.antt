@@ -2,7 +2,7 @@
 use Rattle.std.proofs.Common.{◌≡◌, ℕ, suc, ◌+◌, ◌*◌, ◌/◌, ◌%◌, ◌^◌, ◌<◌, ◌≤◌, ◌⊎◌, cond, eqb, List, [], ◌∷◌, length, refl, ap, sym, ◌∙◌, inl, inr, arith, subst, Contains, pow-suc, pow_pos}
 use Rattle.std.proofs.lemmas.Bool.{cases_lt}
 use Rattle.tuple_model.specs.Tuples.{IsRising, IsTuple, subset}
-use Rattle.tuple_model.proofs.Members.{Contains-cons_head, Contains-cons_tail, Contains-cons_cases}
+use Rattle.list_laws.proofs.Members.{Contains-cons_head, Contains-cons_tail, Contains-cons_cases}
 use Rattle.tuple_model.proofs.Rising.{IsRising-from_higher, IsRising-member}
 
 even_or_odd : (k : ℕ) → (k % 2 ≡ 0) ⊎ (k % 2 ≡ 1)

@@ -4,7 +4,7 @@ use Rattle.std.specs.List.{slice_get}
 use Rattle.std.specs.Option.{option_or, option_map}
 use Rattle.std.proofs.lemmas.Bool.{cases_lt, lt-ltb, le-ltb}
 use Rattle.tuple_model.specs.Tuples.{rising, tuples}
-use Rattle.tuple_model.proofs.Members.{Contains-cons_head, Contains-cons_tail}
+use Rattle.list_laws.proofs.Members.{Contains-cons_head, Contains-cons_tail}
 use Rattle.tuple_model.proofs.Rising.{IsRisingOfSize-from_member, IsTuple-from_member}
 use Rattle.tuple_order.specs.Steps.{numbers_from, next_of_size, first_of_size, next_tuple}
 

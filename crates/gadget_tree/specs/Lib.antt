@@ -1,0 +1,4 @@
+pub mod Seen
+pub mod Gadgets
+pub mod Inside
+pub mod LinearForm

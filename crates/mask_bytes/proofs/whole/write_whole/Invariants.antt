@@ -1,0 +1,14 @@
+use Rattle.std.proofs.Common.{◌≡◌, ◌≤◌, ◌-◌, [], length, take}
+use Rattle.std.specs.Io.KnownBytes.{append_known}
+use Rattle.mask_bytes.proofs.whole.write_whole.Given as goal
+
+abbrev pub invariant-loop-done : goal.invariant-loop-done
+invariant-loop-done g l = record {
+  within : l.done ≤ length l.bytes;
+  appended : g.K.Sink.written l.sink ≡ append_known (g.K.Sink.written l.fn.sink) (take l.done l.bytes);
+  never_falls : g.K.Sink.faults l.fn.sink ≤ g.K.Sink.faults l.sink;
+  untouched : l.bytes ≡ [] → l.sink ≡ l.fn.sink;
+}
+
+abbrev pub decreases-loop-done : goal.decreases-loop-done
+decreases-loop-done g l = length l.bytes - l.done

@@ -1,0 +1,4 @@
+pub mod Counts
+pub mod Flow
+pub mod MemSource
+pub mod MemSink

@@ -1,0 +1,104 @@
+//! Sources and sinks over std's readers and writers.
+ghost use Rattle.std.specs.Prelude.{◌≡◌, ◌<◌, ◌≤◌, length, IfOk, OnOk, OnErr};
+ghost use Rattle.mask_bytes.specs.Counts.{raised_count};
+
+use crate::error::Failed;
+use crate::sink::Sink;
+use crate::source::Source;
+use std::io::{Read, Write};
+use std::marker::Model;
+
+/// A source over a reader. It tells no bytes, and contracts see how many reads failed.
+#[derive(Debug, Drop)]
+pub struct StdSource<T> {
+    reader: T,
+    faults: u64,
+}
+
+impl<T> Model for StdSource<T> {
+    ghost use Rattle.std.specs.Prelude.{ℕ};
+
+    ghost Value = { ℕ };
+
+    ghost view = { λ s. s.faults };
+}
+
+impl<T: Read> StdSource<T> {
+    /// A source that reads from `reader`. Each of the reader's errors is a failure.
+    pub fn make(reader: T) -> StdSource<T>
+        ensures { result ≡ 0 }
+    {
+        StdSource { reader, faults: 0 }
+    }
+}
+
+impl<T: Read> Source for StdSource<T> {
+    ghost use Rattle.std.specs.Prelude.{None};
+
+    ghost left = { λ _. None };
+
+    ghost faults = { λ faults. faults };
+
+    fn read(&mut self, buf: &mut [u8]) -> Result<usize, Failed>
+        ensures bound { IfOk result (λ count. count ≤ length buf.new) }
+        ensures ok { OnOk result (self.new ≡ self.old) }
+        ensures err { OnErr result (self.new ≡ raised_count self.old) }
+        ensures never_falls { self.old ≤ self.new }
+    {
+        match self.reader.read(buf) {
+            Ok(count) => Ok(count),
+            Err(_) => {
+                self.faults = self.faults.saturating_add(1);
+                Err(Failed)
+            }
+        }
+    }
+}
+
+/// A sink over a writer. It tells no bytes, and contracts see how many writes failed.
+#[derive(Debug, Drop)]
+pub struct StdSink<T> {
+    writer: T,
+    faults: u64,
+}
+
+impl<T> Model for StdSink<T> {
+    ghost use Rattle.std.specs.Prelude.{ℕ};
+
+    ghost Value = { ℕ };
+
+    ghost view = { λ s. s.faults };
+}
+
+impl<T: Write> StdSink<T> {
+    /// A sink that writes to `writer`. Each of the writer's errors is a failure, and so is a write of no bytes.
+    pub fn make(writer: T) -> StdSink<T>
+        ensures { result ≡ 0 }
+    {
+        StdSink { writer, faults: 0 }
+    }
+}
+
+impl<T: Write> Sink for StdSink<T> {
+    ghost use Rattle.std.specs.Prelude.{None};
+
+    ghost written = { λ _. None };
+
+    ghost faults = { λ faults. faults };
+
+    fn write(&mut self, piece: &[u8]) -> Result<usize, Failed>
+        ensures some { IfOk result (λ count. 0 < count) }
+        ensures bound { IfOk result (λ count. count ≤ length piece.now) }
+        ensures ok { OnOk result (self.new ≡ self.old) }
+        ensures err { OnErr result (self.new ≡ raised_count self.old) }
+        ensures never_falls { self.old ≤ self.new }
+    {
+        match self.writer.write(piece) {
+            Ok(count) if count > 0 => Ok(count),
+            _ => {
+                self.faults = self.faults.saturating_add(1);
+                Err(Failed)
+            }
+        }
+    }
+}

@@ -1,0 +1,5 @@
+pub mod ShareCounts
+pub mod ShareSums
+pub mod RowsStand
+pub mod Least
+pub mod Checks

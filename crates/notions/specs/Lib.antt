@@ -1,0 +1,3 @@
+pub mod Ni
+pub mod Rows
+pub mod Inside

@@ -1,0 +1,7 @@
+//! Probing notions: which sets of probes fail.
+#![tactic(auto)]
+
+mod ni;
+mod rows;
+
+pub use ni::NiCheck;
