@@ -2,7 +2,7 @@
 use Rattle.std.proofs.Common.{◌≡◌, ℕ, zero, suc, ◌+◌, ◌<◌, List, [], ◌∷◌, ◌++◌, length, Some, refl, sym, ◌∙◌, inl, inr, arith, subst, Contains, get_or}
 use Rattle.std.specs.List.{slice_get}
 use Rattle.std.proofs.lemmas.Bool.{cases_lt}
-use Rattle.std.proofs.lemmas.Option.{slice_get_within, get_or_from_slice_get, slice_get_read}
+use Rattle.std.proofs.lemmas.Option.{slice_get_within, get_or_from_slice_get, slice_get_read, slice_get-get_or}
 use Rattle.tuple_model.specs.Tuples.{IsTuple, ComesFirst, IsBefore, rising, tuples}
 use Rattle.tuple_model.proofs.Rising.{IsTuple-from_member, member-from_IsTuple, tuples-ordered}
 
@@ -62,3 +62,20 @@ rank-larger_size items size (suc more) rank t e =
     let z : suc (more + size) ≡ suc more + size = omega arith in
     let P : ℕ → Type 0 = λ n. slice_get (tuples items n) rank ≡ Some t in
     subst P z (slice_get-append_left (tuples items (more + size)) (rising (suc (more + size)) items 0) rank (slice_get_within (tuples items (more + size)) rank t i) ∙ i)
+
+-- the empty tuple comes first
+pub tuples-first : (items size : ℕ) → slice_get (tuples items size) 0 ≡ Some []
+tuples-first items zero = refl
+tuples-first items (suc size) =
+    let i = tuples-first items size in
+    slice_get-append_left (tuples items size) (rising (suc size) items 0) 0 (slice_get_within (tuples items size) 0 [] i) ∙ i
+
+-- a tuple with a rank below the number of tuples of at most so many items has at most so many
+pub IsTuple-from_low_rank : (items size more rank : ℕ) (t : List ℕ) → rank < length (tuples items size) →
+    slice_get (tuples items (more + size)) rank ≡ Some t → IsTuple items size t
+IsTuple-from_low_rank items size more rank t l e =
+    let u = get_or (tuples items size) rank t in
+    let h : slice_get (tuples items size) rank ≡ Some u = slice_get-get_or (tuples items size) rank t l in
+    let k : slice_get (tuples items (more + size)) rank ≡ Some u = rank-larger_size items size more rank u h in
+    let same : u ≡ t = cc in
+    subst (IsTuple items size) same (IsTuple-from_rank items size rank u h)

@@ -5,8 +5,9 @@ use borrow.Rule.Slice.PartMut.{post_of}
 use Rattle.tuple_model.specs.Tuples.{IsRising, IsTuple}
 use Rattle.tuple_model.proofs.Rising.{IsRising-to_higher}
 use Rattle.tuple_order.specs.Held.{IsHeld, length-held}
-use Rattle.tuple_order.specs.Steps.{numbers_from, next_of_size, next_tuple}
+use Rattle.tuple_order.specs.Steps.{numbers_from, next_of_size}
 use Rattle.tuple_order.proofs.Raising.{length-numbers_from}
+use Rattle.tuple_order.proofs.Walk.{next_tuple}
 use Rattle.tuple_order.proofs.Stepping.{IsTuple-next, next_tuple-raised, next_tuple-longer}
 
 zeros_after : (places : List ℕ) (size more : ℕ) → IsHeld places size → drop (size + more) places ≡ replicate (6 - (size + more)) 0

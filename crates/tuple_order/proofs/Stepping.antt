@@ -6,8 +6,8 @@ use Rattle.std.proofs.lemmas.Bool.{cases_lt}
 use Rattle.std.proofs.lemmas.Option.{slice_get_within, slice_get-get_or}
 use Rattle.tuple_model.specs.Tuples.{IsTuple, tuples}
 use Rattle.tuple_model.proofs.Ranks.{IsTuple-from_rank, rank-from_IsTuple}
-use Rattle.tuple_order.specs.Steps.{numbers_from, next_of_size, first_of_size, next_tuple}
-use Rattle.tuple_order.proofs.Walk.{next_rank, next_tuple-smaller, next_tuple-largest, first_of_size-some, first_of_size-none}
+use Rattle.tuple_order.specs.Steps.{numbers_from, next_of_size}
+use Rattle.tuple_order.proofs.Walk.{first_of_size, next_tuple, next_rank, next_tuple-smaller, next_tuple-largest, first_of_size-some, first_of_size-none}
 
 pub IsTuple-next : (items size : ℕ) (t u : List ℕ) → IsTuple items size t → next_tuple items size t ≡ Some u → IsTuple items size u
 IsTuple-next items size t u h e =

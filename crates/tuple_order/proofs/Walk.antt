@@ -6,7 +6,16 @@ use Rattle.std.proofs.lemmas.Bool.{cases_lt, lt-ltb, le-ltb}
 use Rattle.tuple_model.specs.Tuples.{rising, tuples}
 use Rattle.list_laws.proofs.Members.{Contains-cons_head, Contains-cons_tail}
 use Rattle.tuple_model.proofs.Rising.{IsRisingOfSize-from_member, IsTuple-from_member}
-use Rattle.tuple_order.specs.Steps.{numbers_from, next_of_size, first_of_size, next_tuple}
+use Rattle.tuple_order.specs.Steps.{numbers_from, next_of_size}
+
+-- the first of the rising lists of a size, of so many numbers from low on, if there is one
+abbrev pub first_of_size : ℕ → ℕ → ℕ → Option (List ℕ)
+first_of_size size room low = cond (ltb room size) None (Some (numbers_from low size))
+
+-- the next tuple: the next of the same size, or else the first of the next size
+abbrev pub next_tuple : ℕ → ℕ → List ℕ → Option (List ℕ)
+next_tuple items size t =
+    option_or (next_of_size items t) (cond (ltb (length t) size) (first_of_size (suc (length t)) items 0) None)
 
 -- steps from a start give exactly the list, and end with it
 abbrev pub Follows : (List ℕ → Option (List ℕ)) → Option (List ℕ) → List (List ℕ) → Type 0

@@ -1,4 +1,4 @@
--- The step from a tuple to the next one, by the items of the tuple alone.
+-- The step from a rising list to the next one of its size.
 use Rattle.std.specs.Prelude.{ℕ, zero, suc, ◌+◌, ◌-◌, ◌<◌, if◌then◌else◌, nat_lt, List, [], ◌∷◌, length, slice_index, Option, Some, None, option_map}
 use Rattle.std.specs.Option.{option_or}
 
@@ -17,12 +17,3 @@ next_of_size high [] = None
 next_of_size high (x ∷ xs) =
     option_or (option_map (λ t. x ∷ t) (next_of_size high xs))
     (if nat_lt (suc x + length xs) high then Some (numbers_from (suc x) (suc (length xs))) else None)
-
--- the first of the rising lists of a size, of so many numbers from low on, if there is one
-abbrev pub first_of_size : ℕ → ℕ → ℕ → Option (List ℕ)
-first_of_size size room low = if nat_lt room size then None else Some (numbers_from low size)
-
--- the next tuple: the next of the same size, or else the first of the next size
-abbrev pub next_tuple : ℕ → ℕ → List ℕ → Option (List ℕ)
-next_tuple items size t =
-    option_or (next_of_size items t) (if nat_lt (length t) size then first_of_size (suc (length t)) items 0 else None)

@@ -1,4 +1,4 @@
-//! Tuples as the code has them: the steps from each to the next, and their subsets.
+//! Tuples as the code has them: the steps from each to the next, their subsets, and how many there are.
 #![tactic(auto)]
 
 mod counts;
