@@ -73,11 +73,14 @@ pub record IsOutLine (n : ℕ) (inputs : List (List ℕ)) (line : List ℕ) (out
   pub distinct : AreDistinct (share_names n inputs ++ share_names n outputs)
   pub words : words_of line ≡ codes "#OUT" ∷ outputs
 
--- The variables of the input shares, by input and then index, from input k on. Their line is that of `#IN`.
+-- the variables of the n shares of input k; their line is that of `#IN`
+abbrev pub shares_of_input : ℕ → ℕ → List ℕ → List Variable
+shares_of_input n k stem = map (λ i. record { name = share_name stem i; node = share (16 * k + i); line = 2 }) (range_with_len 0 n)
+
+-- the variables of the input shares, by input and then index, from input k on
 abbrev pub share_variables : ℕ → ℕ → List (List ℕ) → List Variable
 share_variables n k [] = []
-share_variables n k (stem ∷ stems) =
-    map (λ i. record { name = share_name stem i; node = share (16 * k + i); line = 2 }) (range_with_len 0 n) ++ share_variables n (suc k) stems
+share_variables n k (stem ∷ stems) = shares_of_input n k stem ++ share_variables n (suc k) stems
 
 -- the words write a node behind a name: `x = a` or `x = a + b`, with names of earlier variables
 abbrev pub WritesNode : List Variable → List (List ℕ) → List ℕ → Node → Type 0
@@ -120,11 +123,23 @@ EndOfFile n inputs outputs r number variables =
     × (r ≡ Ok (record { shares = n; inputs = inputs; randoms = 0; outputs = outputs; output_shares = shares; variables = variables })))
     ⊎ (((shares : List ℕ) → AreOutputShares n outputs variables shares → ⊥) × (r ≡ Err number))
 
+-- what is said behind the line `#OUT`
+abbrev pub AfterOut : ℕ → List (List ℕ) → List (List ℕ) → List (List ℕ) → Result Circuit ℕ → Type 0
+AfterOut n inputs outputs lines r = OperationLines (EndOfFile n inputs outputs r) 4 (share_variables n 0 inputs) lines r
+
+-- what is said behind the line `#IN`
+abbrev pub AfterIn : ℕ → List (List ℕ) → List (List ℕ) → Result Circuit ℕ → Type 0
+AfterIn n inputs lines r = NextLine (IsOutLine n inputs) 3 lines (λ outputs after. AfterOut n inputs outputs after r) r
+
+-- what is said behind the line `#SHARES`
+abbrev pub AfterShares : ℕ → List (List ℕ) → Result Circuit ℕ → Type 0
+AfterShares n lines r = NextLine (IsInLine n) 2 lines (λ inputs after. AfterIn n inputs after r) r
+
+-- what the lines of a file say
+abbrev pub LinesSay : List (List ℕ) → Result Circuit ℕ → Type 0
+LinesSay lines r = NextLine IsSharesLine 1 lines (λ n after. AfterShares n after r) r
+
 -- What a file says: the gadget, or the first line that the form does not allow at its place. Where all lines are allowed
 -- but a line or an output share is missing, that is the number of lines and 1.
 unfoldable pub FileSays : List ℕ → Result Circuit ℕ → Type 0
-FileSays bytes r =
-    NextLine IsSharesLine 1 (lines_of bytes) (λ n after_shares.
-    NextLine (IsInLine n) 2 after_shares (λ inputs after_in.
-    NextLine (IsOutLine n inputs) 3 after_in (λ outputs after_out.
-    OperationLines (EndOfFile n inputs outputs r) 4 (share_variables n 0 inputs) after_out r) r) r) r
+FileSays bytes r = LinesSay (lines_of bytes) r
