@@ -1,1 +1,4 @@
+pub mod Decimals
+pub mod HeaderLines
 pub mod Texts
+pub mod Variables
