@@ -1,6 +1,6 @@
 -- The code's variables as the model's.
-use Rattle.std.proofs.Common.{◌≡◌, ℕ, ◌<◌, ◌≤◌, ◌+◌, List, [], ◌∷◌, map, length, get_or, refl, ap, sym, ◌∙◌, arith}
-use Rattle.std.proofs.lemmas.List.{length-map, get_or-map}
+use Rattle.std.proofs.Common.{◌≡◌, ℕ, ◌<◌, ◌≤◌, ◌+◌, List, [], ◌∷◌, ◌++◌, map, length, get_or, refl, ap, sym, ◌∙◌, arith}
+use Rattle.std.proofs.lemmas.List.{length-map, get_or-map, map-append}
 use Rattle.gadget_model.specs.Circuit.{Variable}
 use Rattle.gadget_tree.specs.declared.var.Var.{Var}
 use Rattle.gadget_tree.specs.LinearForm.{names_of, name_at}
@@ -16,3 +16,6 @@ pub name_at-variables_of : (vs : List Var) (k : ℕ) (d : Var) → k < length vs
 name_at-variables_of vs k d l =
     let e = length-map vs variable_of in
     get_or-map (λ (v : Variable). v.name) (variables_of vs) k (variable_of d) [] (omega arith) ∙ ap (λ (v : Variable). v.name) (get_or-map variable_of vs k d (variable_of d) l)
+
+pub variables_of-push : (vs : List Var) (v : Var) → variables_of (vs ++ v ∷ []) ≡ variables_of vs ++ variable_of v ∷ []
+variables_of-push vs v = map-append variable_of vs (v ∷ [])
