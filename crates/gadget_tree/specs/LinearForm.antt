@@ -98,10 +98,18 @@ pub record IsOperationLine (number : ℕ) (earlier : List Variable) (line : List
   pub number_of : v.line ≡ number
   pub writes : WritesNode earlier (words_of line) v.name v.node
 
+-- v is the number of a variable with this name
+abbrev pub IsNamed : List Variable → List ℕ → ℕ → Type 0
+IsNamed variables name v = (v < length variables) × (name_at variables v ≡ name)
+
 -- each output share is the variable of its name
 abbrev pub AreOutputShares : ℕ → List (List ℕ) → List Variable → List ℕ → Type 0
-AreOutputShares n outputs variables output_shares =
-    AllZip (λ name v. (v < length variables) × (name_at variables v ≡ name)) (share_names n outputs) output_shares
+AreOutputShares n outputs variables output_shares = AllZip (IsNamed variables) (share_names n outputs) output_shares
+
+-- a gadget of the linear form, which has no randoms
+abbrev pub linear_gadget : ℕ → List (List ℕ) → List (List ℕ) → List ℕ → List Variable → Circuit
+linear_gadget n inputs outputs output_shares variables =
+    record { shares = n; inputs = inputs; randoms = 0; outputs = outputs; output_shares = output_shares; variables = variables }
 
 -- The next line is allowed, and what follows goes by what it says; or the file ends here or the line isn't allowed,
 -- and its number is the answer.
@@ -120,7 +128,7 @@ OperationLines End number earlier (line ∷ lines) r =
 abbrev pub EndOfFile : ℕ → List (List ℕ) → List (List ℕ) → Result Circuit ℕ → ℕ → List Variable → Type 0
 EndOfFile n inputs outputs r number variables =
     ((shares : List ℕ) × AreOutputShares n outputs variables shares
-    × (r ≡ Ok (record { shares = n; inputs = inputs; randoms = 0; outputs = outputs; output_shares = shares; variables = variables })))
+    × (r ≡ Ok (linear_gadget n inputs outputs shares variables)))
     ⊎ (((shares : List ℕ) → AreOutputShares n outputs variables shares → ⊥) × (r ≡ Err number))
 
 -- what is said behind the line `#OUT`

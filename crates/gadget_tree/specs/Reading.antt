@@ -1,5 +1,5 @@
 -- What the parts of the reader say of a line: what it says in the linear form, or that it says nothing.
-use Rattle.std.specs.Prelude.{◌≡◌, ℕ, ◌+◌, ◌<◌, ◌≤◌, IsTrue, List, [], ◌∷◌, map, length, All, AllPairs, Contains, Option, Some, None, Result, codes}
+use Rattle.std.specs.Prelude.{◌≡◌, ℕ, ◌+◌, ◌<◌, ◌≤◌, IsTrue, List, [], ◌∷◌, map, length, All, AllPairs, Contains, Option, Some, None, Result, Err, codes}
 use Rattle.gadget_model.specs.Circuit.{Node, share, random, copy, sum_of, product_of, Variable, Circuit}
 use Rattle.gadget_tree.specs.LinearForm.{is_stem, names_of, name_at, words_of, WritesNode, OperationLines, EndOfFile}
 
@@ -43,3 +43,8 @@ GoesOn number earlier lines later_number later later_lines =
     (n : ℕ) (inputs outputs : List (List ℕ)) (r : Result Circuit ℕ)
     → OperationLines (EndOfFile n inputs outputs r) later_number later later_lines r
     → OperationLines (EndOfFile n inputs outputs r) number earlier lines r
+
+-- a line is refused, whatever the headers are
+abbrev pub StopsAt : ℕ → ℕ → List Variable → List (List ℕ) → Type 0
+StopsAt line number earlier lines =
+    (n : ℕ) (inputs outputs : List (List ℕ)) → OperationLines (EndOfFile n inputs outputs (Err line)) number earlier lines (Err line)
