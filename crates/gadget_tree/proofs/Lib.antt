@@ -1,6 +1,9 @@
 pub mod Decimals
 pub mod HeaderLines
+pub mod Lists
+pub mod NamesOf
 pub mod NextLines
+pub mod OperationLines
 pub mod Operations
 pub mod Pushes
 pub mod Texts
