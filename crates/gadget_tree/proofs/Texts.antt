@@ -61,3 +61,12 @@ pub first_two_items : {X : Type 0} (xs : List X) (d : X) → 2 ≤ length xs →
 first_two_items [] d l = absurd (omega arith)
 first_two_items (x ∷ []) d l = absurd (omega arith)
 first_two_items (x ∷ y ∷ xs) d l = refl
+
+pub length-without_empty_last-le : (xs : List (List ℕ)) → length (without_empty_last xs) ≤ length xs
+length-without_empty_last-le [] = omega arith
+length-without_empty_last-le ([] ∷ []) = omega arith
+length-without_empty_last-le ((b ∷ bs) ∷ []) = omega arith
+length-without_empty_last-le (x ∷ y ∷ xs) =
+    let e = ap (λ (ls : List (List ℕ)). length ls) (more x y xs) in
+    let l = length-without_empty_last-le (y ∷ xs) in
+    omega arith
