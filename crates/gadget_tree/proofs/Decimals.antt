@@ -28,16 +28,16 @@ two_digits w l one low high =
 pub small_decimal : (w : List ℕ) (n : ℕ) → 1 ≤ n → n ≤ 16 → w ≡ decimal n →
     ((length w ≡ 1) × (49 ≤ get_or w 0 0) × (get_or w 0 0 ≤ 57)) ⊎ ((length w ≡ 2) × (get_or w 0 0 ≡ 49) × (48 ≤ get_or w 1 0) × (get_or w 1 0 ≤ 54))
 small_decimal w n some few e = elim (cases_lt n 10) [
-    inl l ↦
-        let f = e ∙ decimal_digit n l in
-        let g = ap (λ v. length v) f in
-        let h = ap (λ v. get_or v 0 0) f in
-        inl (omega arith, omega arith, omega arith)
+  | inl l ↦
+      let f = e ∙ decimal_digit n l in
+      let g = ap (λ v. length v) f in
+      let h = ap (λ v. get_or v 0 0) f in
+      inl (omega arith, omega arith, omega arith)
   | inr l ↦
-        let m : 10 + (n - 10) ≡ n = omega arith in
-        let f = e ∙ ap decimal (sym m) ∙ decimal_teen (n - 10) (omega arith) in
-        let g = ap (λ v. length v) f in
-        let h = ap (λ v. get_or v 0 0) f in
-        let k = ap (λ v. get_or v 1 0) f in
-        inr (omega arith, omega arith, omega arith, omega arith)
+      let m : 10 + (n - 10) ≡ n = omega arith in
+      let f = e ∙ ap decimal (sym m) ∙ decimal_teen (n - 10) (omega arith) in
+      let g = ap (λ v. length v) f in
+      let h = ap (λ v. get_or v 0 0) f in
+      let k = ap (λ v. get_or v 1 0) f in
+      inr (omega arith, omega arith, omega arith, omega arith)
 ]

@@ -17,10 +17,10 @@ pub each_push : {X : Type 0} (P : ℕ → X → Type 0) (xs : List X) (y : X) �
 each_push P xs y each last k d l =
     let n = length-append xs (y ∷ []) in
     elim (cases_lt k (length xs)) [
-      inl m ↦ subst (P k) (sym (get_or_append_left xs (y ∷ []) d k m)) (each k d m)
-    | inr m ↦
-        let e : length xs ≡ k = omega arith in
-        subst (P k) (sym (get_or_push xs y d k e)) (subst (λ j. P j y) e last)
+      | inl m ↦ subst (P k) (sym (get_or_append_left xs (y ∷ []) d k m)) (each k d m)
+      | inr m ↦
+          let e : length xs ≡ k = omega arith in
+          subst (P k) (sym (get_or_push xs y d k e)) (subst (λ j. P j y) e last)
     ]
 
 pub AllPairs-append_right : {X : Type 0} (R : X → X → Type 0) (xs ys : List X) → AllPairs R (xs ++ ys) → AllPairs R ys
@@ -38,9 +38,9 @@ AllPairs-append_left R xs ys h = λ i j d l m.
 -- in a list of different items, an item has one place
 pub place_of_item : {X : Type 0} (xs : List X) (d : X) → AllPairs (λ a b. a ≢ b) xs → (i j : ℕ) → i < length xs → j < length xs → get_or xs i d ≡ get_or xs j d → i ≡ j
 place_of_item xs d h i j l m e = elim (cases_lt i j) [
-    inl a ↦ absurd (h i j d a m e)
+  | inl a ↦ absurd (h i j d a m e)
   | inr a ↦ elim (cases_lt j i) [
-      inl b ↦ absurd (h j i d b l (sym e))
+    | inl b ↦ absurd (h j i d b l (sym e))
     | inr b ↦ omega arith
-    ]
+  ]
 ]

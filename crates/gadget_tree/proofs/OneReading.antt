@@ -89,9 +89,9 @@ module _ (r s : Result Circuit ℕ) where
   pub lines_once : (lines : List (List ℕ)) → LinesSay lines r → LinesSay lines s → r ≡ s
   lines_once lines h k = next_once IsSharesLine (λ n after. AfterShares n after r) (λ n after. AfterShares n after s) 1 lines shares_once
       (λ line_1 n after_1 is_shares h k. next_once (IsInLine n) (λ inputs after. AfterIn n inputs after r) (λ inputs after. AfterIn n inputs after s) 2 after_1 (inputs_once n)
-        (λ line_2 inputs after_2 is_in h k. next_once (IsOutLine n inputs) (λ outputs after. AfterOut n inputs outputs after r) (λ outputs after. AfterOut n inputs outputs after s) 3 after_2 (outputs_once n inputs)
-          (λ line_3 outputs after_3 is_out h k. operations_once (EndOfFile n inputs outputs r) (EndOfFile n inputs outputs s) (end_once n inputs outputs) after_3 4 (share_variables n 0 inputs)
-            (subst AreDistinct (sym (names_of-share_variables n 0 inputs)) is_in.distinct) h k)
-          h k)
-        h k)
+      (λ line_2 inputs after_2 is_in h k. next_once (IsOutLine n inputs) (λ outputs after. AfterOut n inputs outputs after r) (λ outputs after. AfterOut n inputs outputs after s) 3 after_2 (outputs_once n inputs)
+      (λ line_3 outputs after_3 is_out h k. operations_once (EndOfFile n inputs outputs r) (EndOfFile n inputs outputs s) (end_once n inputs outputs) after_3 4 (share_variables n 0 inputs)
+      (subst AreDistinct (sym (names_of-share_variables n 0 inputs)) is_in.distinct) h k)
+      h k)
+      h k)
       h k

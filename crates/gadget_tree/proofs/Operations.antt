@@ -82,8 +82,11 @@ module _ (vs : List Variable) where
   assigned-says [] d l e stem fresh o r = absurd (omega arith)
   assigned-says (x ∷ []) d l e stem fresh o r = absurd (omega arith)
   assigned-says (x ∷ y ∷ ws) d l e stem fresh None r = λ name node h. r node (node_read x.now y.now name (texts ws) node h.writes)
-  assigned-says (x ∷ y ∷ ws) d l e stem fresh (Some kind) r = (omega arith, record {
-    stem = stem;
-    fresh = fresh;
-    writes = subst (λ s. WritesNode vs (x.now ∷ s ∷ texts ws) x.now (node_of kind)) (sym e) (node_written x.now (texts ws) (node_of kind) r);
-  })
+  assigned-says (x ∷ y ∷ ws) d l e stem fresh (Some kind) r = (
+    omega arith,
+    record {
+      stem = stem;
+      fresh = fresh;
+      writes = subst (λ s. WritesNode vs (x.now ∷ s ∷ texts ws) x.now (node_of kind)) (sym e) (node_written x.now (texts ws) (node_of kind) r);
+    },
+  )

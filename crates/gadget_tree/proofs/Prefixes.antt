@@ -53,5 +53,5 @@ prefix_more n inputs number vs line v p h =
       few = omega arith;
       distinct = distinct_more number vs line v p.distinct h;
       each = subst (λ (nodes : List Node). (k : ℕ) (d : Node) → k < length nodes → IsGood n inputs k (get_or nodes k d)) (sym (map-append (λ (v : Variable). v.node) vs (v ∷ [])))
-        (each_push (IsGood n inputs) (nodes_of vs) v.node p.each (good_written n inputs vs _ v.name (length (nodes_of vs)) v.node (sym e) h.writes));
+          (each_push (IsGood n inputs) (nodes_of vs) v.node p.each (good_written n inputs vs _ v.name (length (nodes_of vs)) v.node (sym e) h.writes));
     }

@@ -47,7 +47,7 @@ nodes-share_variables n k inputs (stem ∷ stems) few =
     let e = map-map (λ (v : Variable). v.node) (λ i. let v : Variable = record { name = share_name stem i; node = share (16 * k + i); line = 2 } in v) (range_with_len 0 n) in
     let m = length-map-range_with_len g 0 n in
     let first : All P (map g (range_with_len 0 n)) = λ i d l.
-      let lt : i < n = omega arith in
-      subst P (sym (get_or-map-range_with_len g 0 n i i d lt (omega arith))) (k, i, omega arith, lt, refl) in
+    let lt : i < n = omega arith in
+    subst P (sym (get_or-map-range_with_len g 0 n i i d lt (omega arith))) (k, i, omega arith, lt, refl) in
     subst (All P) (sym (map-append (λ (v : Variable). v.node) (shares_of_input n k stem) (share_variables n (suc k) stems)))
     (All-append P (map (λ (v : Variable). v.node) (shares_of_input n k stem)) (map (λ (v : Variable). v.node) (share_variables n (suc k) stems)) (subst (All P) (sym e) first) (nodes-share_variables n (suc k) inputs stems (omega arith)))

@@ -146,7 +146,7 @@ fn out_line(
 pub(crate) fn read_header(alloc: Global, lines: &[&[u8]]) -> Result<Header, FileError>
     ensures { MatchResult result
         (λ h. (3 ≤ length lines.now) × (h.shares ≤ 16) × (length h.inputs.items ≤ 4)
-            × ((r : Result Circuit ℕ) → AfterOut h.shares h.inputs.items h.outputs.items (map (λ w. w.now) (drop 3 lines.now)) r → LinesSay (map (λ w. w.now) lines.now) r))
+        × ((r : Result Circuit ℕ) → AfterOut h.shares h.inputs.items h.outputs.items (map (λ w. w.now) (drop 3 lines.now)) r → LinesSay (map (λ w. w.now) lines.now) r))
         (Refuses (λ line. LinesSay (map (λ w. w.now) lines.now) (Err line))) }
 {
     if lines.is_empty() {

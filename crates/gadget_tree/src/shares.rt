@@ -95,11 +95,7 @@ fn push_share_vars(
 }
 
 /// The variables of the input shares.
-pub(crate) fn share_vars(
-    alloc: Global,
-    shares: u8,
-    inputs: &[Name],
-) -> Result<Vec<Var>, AllocError>
+pub(crate) fn share_vars(alloc: Global, shares: u8, inputs: &[Name]) -> Result<Vec<Var>, AllocError>
     requires { length inputs.now ≤ 4 }
     ensures { IfOk result (λ v. variables_of v.items ≡ share_variables shares 0 inputs.now) }
 {

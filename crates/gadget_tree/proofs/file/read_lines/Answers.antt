@@ -35,6 +35,6 @@ new-requires c =
     let start = c.in_ok-shares.ensures ∙ ap (share_variables n 0) c.deref.ensures.value in
     let found = reads_some _ (AreOutputShares n c.deref-3.result.now (variables_of c.deref-2.result.now)) _ _ c.in-Some.is c.in_ok-output_shares.ensures in
     let named : AreOutputShares n outputs vs shares =
-      subst (λ (os : List (List ℕ)). AreOutputShares n os vs shares) c.deref-3.ensures.value (subst (λ us. AreOutputShares n c.deref-3.result.now (variables_of us) shares) c.deref-2.ensures.value found) in
+    subst (λ (os : List (List ℕ)). AreOutputShares n os vs shares) c.deref-3.ensures.value (subst (λ us. AreOutputShares n c.deref-3.result.now (variables_of us) shares) c.deref-2.ensures.value found) in
     gadget_from_lines (texts c.args.lines.now) g
     (behind_operations c.args.lines.now ops n inputs outputs (variables_of c.in_ok-shares.shares.items) vs c.in_ok-header.ensures.3 start c.operation_lines.ensures c.in_ok-vars.ensures.1 (Ok g) (inl (shares, named, refl)))

@@ -30,6 +30,10 @@ returns c =
     let o = reads_some _ (IsOutLine n c.deref.result.now (get_or ls 2 d).now) _ _ c.in-Some-3.is c.in_ok-outputs.ensures in
     let few = s.few in
     let few_inputs = i.few in
-    let three : 3 ≤ length ls = omega arith in
-    (three, few, few_inputs, λ r h. behind_headers ls d n c.in-Some-2.inputs.items c.in-Some-3.outputs.items r three s i
-      (subst (λ inputs. IsOutLine n inputs (get_or ls 2 d).now c.in-Some-3.outputs.items) c.deref.ensures.value o) h)
+    let three : 3 ≤ length ls = omega arith in (
+      three,
+      few,
+      few_inputs,
+      λ r h. behind_headers ls d n c.in-Some-2.inputs.items c.in-Some-3.outputs.items r three s i
+          (subst (λ inputs. IsOutLine n inputs (get_or ls 2 d).now c.in-Some-3.outputs.items) c.deref.ensures.value o) h,
+    )

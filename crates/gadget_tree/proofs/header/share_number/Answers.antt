@@ -11,13 +11,15 @@ returns-then-word-le54 c = (omega arith, omega arith, two_digits c.args.word.now
 
 pub returns : goal.returns
 returns c = λ n h. elim (small_decimal c.args.word.now n h.0 h.1 h.2) [
-    inl d ↦ elim c.else-word-eq1.branch [
-      else-word-eq1-via-then-word-eq1+then-word-ge49+else-word-le57 w ↦ omega arith
+  | inl d ↦ elim c.else-word-eq1.branch [
+    | else-word-eq1-via-then-word-eq1+then-word-ge49+else-word-le57 w ↦ omega arith
     | else-word-eq1-via-then-word-eq1+else-word-ge49 w ↦ omega arith
-    | else-word-eq1-via-else-word-eq1 w ↦ omega arith ]
+    | else-word-eq1-via-else-word-eq1 w ↦ omega arith
+  ]
   | inr d ↦ elim c.else-word-eq2.branch [
-      else-word-eq2-via-then-word-eq2+then-word-eq49+then-word-ge48+else-word-le54 w ↦ omega arith
+    | else-word-eq2-via-then-word-eq2+then-word-eq49+then-word-ge48+else-word-le54 w ↦ omega arith
     | else-word-eq2-via-then-word-eq2+then-word-eq49+else-word-ge48 w ↦ omega arith
     | else-word-eq2-via-then-word-eq2+else-word-eq49 w ↦ omega arith
-    | else-word-eq2-via-else-word-eq2 w ↦ omega arith ]
+    | else-word-eq2-via-else-word-eq2 w ↦ omega arith
+  ]
 ]

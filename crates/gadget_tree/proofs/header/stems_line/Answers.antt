@@ -25,8 +25,8 @@ returns c =
     let behind : texts (drop 1 c.deref.result.now) ≡ texts (drop 1 ws) = ap (λ (xs : List (Bor (List ℕ))). texts (drop 1 xs)) c.deref.ensures.value in
     IfOk-weaker c.stems_behind.result _ _
     (λ o. reads_same _ (λ stems. All (λ w. IsTrue (is_stem w)) stems × (texts (drop 1 c.deref.result.now) ≡ stems)) (IsStemsLine keyword most line) o
-      (λ stems h. stems_line-says keyword line most ws d c.in_ok-words.ensures two few first stems (h.0, sym behind ∙ h.1))
-      (λ stems h. (h.all_stems, behind ∙ (stems_line-tests keyword line most ws d c.in_ok-words.ensures stems h).3)))
+    (λ stems h. stems_line-says keyword line most ws d c.in_ok-words.ensures two few first stems (h.0, sym behind ∙ h.1))
+    (λ stems h. (h.all_stems, behind ∙ (stems_line-tests keyword line most ws d c.in_ok-words.ensures stems h).3)))
     c.stems_behind.ensures
 
 pub returns-then-len-lt2 : goal.returns-then-len-lt2
@@ -36,15 +36,15 @@ returns-then-len-lt2 c = λ stems h.
     let most = c.args.most in
     let ws = c.in_ok-words.words.items in
     elim c.then-len-lt2.branch [
-      then-len-lt2-via-then-len-lt2 w ↦
-        let t = stems_line-tests keyword line most ws (record { ref_ptr = c.args.line.ref_ptr; now = line }) c.in_ok-words.ensures stems h in
-        omega arith
-    | then-len-lt2-via-else-len-lt2+then-most-len w ↦
-        let t = stems_line-tests keyword line most ws (record { ref_ptr = c.args.line.ref_ptr; now = line }) c.in_ok-words.ensures stems h in
-        omega arith
-    | then-len-lt2-via-else-len-lt2+else-most-len+then-ne w ↦
-        let d = w.index.result.now in
-        let t = stems_line-tests keyword line most ws d c.in_ok-words.ensures stems h in
-        let same : d.now ≡ keyword = ap (λ (b : Bor (List ℕ)). b.now) w.index.ensures ∙ t.2 in
-        not_from_Decides _ (bytes_eq-Decides d.now keyword) (not-true _ (sym w.ne.ensures ∙ w.if-ne.true)) same
+      | then-len-lt2-via-then-len-lt2 w ↦
+          let t = stems_line-tests keyword line most ws (record { ref_ptr = c.args.line.ref_ptr; now = line }) c.in_ok-words.ensures stems h in
+          omega arith
+      | then-len-lt2-via-else-len-lt2+then-most-len w ↦
+          let t = stems_line-tests keyword line most ws (record { ref_ptr = c.args.line.ref_ptr; now = line }) c.in_ok-words.ensures stems h in
+          omega arith
+      | then-len-lt2-via-else-len-lt2+else-most-len+then-ne w ↦
+          let d = w.index.result.now in
+          let t = stems_line-tests keyword line most ws d c.in_ok-words.ensures stems h in
+          let same : d.now ≡ keyword = ap (λ (b : Bor (List ℕ)). b.now) w.index.ensures ∙ t.2 in
+          not_from_Decides _ (bytes_eq-Decides d.now keyword) (not-true _ (sym w.ne.ensures ∙ w.if-ne.true)) same
     ]

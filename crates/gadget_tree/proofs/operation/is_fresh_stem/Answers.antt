@@ -12,5 +12,5 @@ returns-then-is_stem c =
     let word = c.args.word.now in
     let n = length-map vs variable_of in
     let none = is_none-decides c.number.result c.is_none.result (Contains (names_of (variables_of vs)) word) (λ k. (k < length vs) × (name_at (variables_of vs) k ≡ word))
-      c.is_none.ensures c.number.ensures (λ k h. let l = h.0 in Contains-name_at (variables_of vs) word k (omega arith) h.1) in
+    c.is_none.ensures c.number.ensures (λ k h. let l = h.0 in Contains-name_at (variables_of vs) word k (omega arith) h.1) in
     (λ t. (sym c.is_stem.ensures ∙ c.if-is_stem.true, none.0 t), λ h. none.1 h.1)

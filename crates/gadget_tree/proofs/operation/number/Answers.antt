@@ -7,8 +7,10 @@ use Rattle.gadget_tree.proofs.Variables.{name_at-variables_of, length-variables_
 use Rattle.gadget_tree.proofs.operation.number.Goals as goal
 
 pub returns-then-is : goal.returns-then-is
-returns-then-is c = (c.loop-i-test.true,
-    name_at-variables_of c.args.vars.now c.loop-i.i c.index-vars-i.result c.loop-i-test.true ∙ ap (λ (v : Var). v.name) (sym c.index-vars-i.is) ∙ c.is.ensures.0 c.if-is.true)
+returns-then-is c = (
+  c.loop-i-test.true,
+  name_at-variables_of c.args.vars.now c.loop-i.i c.index-vars-i.result c.loop-i-test.true ∙ ap (λ (v : Var). v.name) (sym c.index-vars-i.is) ∙ c.is.ensures.0 c.if-is.true,
+)
 
 pub loop-i-preserved : goal.loop-i-preserved
 loop-i-preserved c = below_more _ _ c.loop-i.invariant
