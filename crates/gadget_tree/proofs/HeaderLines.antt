@@ -1,10 +1,10 @@
 -- Header lines, word by word.
-use Rattle.std.proofs.Common.{◌≡◌, ℕ, suc, ◌<◌, ◌≤◌, ◌+◌, ◌-◌, List, [], ◌∷◌, map, length, get_or, drop, refl, ap, sym, ◌∙◌, arith, Bor, Option, Some, None}
+use Rattle.std.proofs.Common.{◌≡◌, ℕ, ◌≤◌, ◌+◌, List, [], ◌∷◌, length, get_or, drop, ap, sym, ◌∙◌, arith, Bor, Option, Some, None}
 use Rattle.std.specs.Prelude.{All, IsTrue, codes, decimal}
 use Rattle.std.proofs.lemmas.List.{length-map}
 use Rattle.gadget_tree.specs.LinearForm.{words_of, is_stem, IsSharesLine}
 use Rattle.gadget_tree.specs.Reading.{Reads, IsStemsLine}
-use Rattle.gadget_tree.proofs.Texts.{texts, two_items, first_item}
+use Rattle.gadget_tree.proofs.Texts.{texts, first_item}
 
 -- an answer stays right where what is said says the same
 pub reads_same : {X A : Type 0} (seen : X → A) (P Q : A → Type 0) (o : Option X) → ((a : A) → P a → Q a) → ((a : A) → Q a → P a) → Reads seen P o → Reads seen Q o

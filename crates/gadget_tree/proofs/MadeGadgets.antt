@@ -1,12 +1,12 @@
 -- What is said of a file is a gadget.
-use Rattle.std.proofs.Common.{◌≡◌, ◌≢◌, ℕ, ◌<◌, ◌≤◌, ◌+◌, ◌*◌, ◌++◌, List, [], ◌∷◌, length, get_or, map, refl, ap, sym, subst, ◌∙◌, arith, inl, inr, Result, Ok, Err}
+use Rattle.std.proofs.Common.{◌≡◌, ◌≢◌, ℕ, ◌<◌, ◌+◌, ◌++◌, List, [], ◌∷◌, length, get_or, refl, sym, subst, ◌∙◌, arith, inl, inr, Ok}
 use Rattle.std.proofs.lemmas.List.{get_or_default}
 use Rattle.std.proofs.lemmas.Option.{slice_get_within, get_or_from_slice_get}
 use Rattle.std.proofs.lemmas.Slice.Zip.{AllZip-long}
 use Rattle.gadget_model.specs.Circuit.{Node, share, random, copy, sum_of, product_of, Variable, Circuit, NamesEarlier}
 use Rattle.gadget_tree.specs.Gadgets.{IsLinearNode, IsGadget}
-use Rattle.gadget_tree.specs.LinearForm.{share_names, share_variables, IsNamed, AreOutputShares, linear_gadget, IsSharesLine, IsInLine, IsOutLine, OperationLines, EndOfFile, AfterOut, AfterIn, AfterShares, LinesSay}
-use Rattle.gadget_tree.proofs.Lists.{AllPairs-append_right, AllPairs-append_left}
+use Rattle.gadget_tree.specs.LinearForm.{share_names, share_variables, IsNamed, AreOutputShares, linear_gadget, IsSharesLine, IsInLine, IsOutLine, OperationLines, EndOfFile, AfterIn, AfterShares, LinesSay}
+use Rattle.gadget_tree.proofs.Lists.{AllPairs-append_right}
 use Rattle.gadget_tree.proofs.NamesOf.{named_item, named_apart}
 use Rattle.gadget_tree.proofs.Prefixes.{IsPrefix, nodes_of, prefix_start, prefix_more}
 use Rattle.gadget_tree.proofs.ShareVariables.{length-share_names}

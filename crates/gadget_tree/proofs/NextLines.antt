@@ -1,5 +1,5 @@
 -- The header lines, one behind the other.
-use Rattle.std.proofs.Common.{◌≡◌, ℕ, ◌<◌, ◌≤◌, ◌+◌, ◌++◌, List, [], ◌∷◌, length, get_or, drop, map, refl, ap, sym, subst, ◌∙◌, arith, Bor, Option, Some, None, inl, inr, Result, Ok, Err}
+use Rattle.std.proofs.Common.{◌≡◌, ℕ, ◌≤◌, List, [], ◌∷◌, length, get_or, drop, refl, subst, arith, Bor, Option, Some, None, inl, inr, Result, Err}
 use Rattle.gadget_model.specs.Circuit.{Circuit}
 use Rattle.gadget_tree.specs.LinearForm.{IsSharesLine, IsInLine, IsOutLine, AfterOut, LinesSay}
 use Rattle.gadget_tree.specs.Reading.{Reads}

@@ -1,5 +1,5 @@
 -- The operation lines in the order of the file.
-use Rattle.std.proofs.Common.{◌≡◌, ℕ, ◌<◌, ◌≤◌, ◌+◌, ◌++◌, List, [], ◌∷◌, length, get_or, drop, map, refl, ap, sym, subst, ◌∙◌, arith, Bor, inl, inr, Result, Ok, Err}
+use Rattle.std.proofs.Common.{◌≡◌, ℕ, ◌<◌, ◌≤◌, ◌+◌, ◌++◌, List, [], ◌∷◌, length, get_or, drop, sym, subst, Bor, inl, Result}
 use Rattle.std.proofs.lemmas.List.{drop_more, at_drop_all}
 use Rattle.gadget_model.specs.Circuit.{Circuit, Variable}
 use Rattle.gadget_tree.specs.LinearForm.{IsOperationLine, OperationLines, EndOfFile, AfterOut, LinesSay, share_variables}

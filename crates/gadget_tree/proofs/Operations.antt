@@ -1,14 +1,13 @@
 -- Operation lines, word by word.
-use Rattle.std.proofs.Common.{◌≡◌, ℕ, ◌<◌, ◌≤◌, ◌+◌, Bool, true, false, not, List, [], ◌∷◌, map, length, get_or, drop, refl, ap, sym, subst, ◌∙◌, arith, Bor, Option, Some, None}
+use Rattle.std.proofs.Common.{◌≡◌, ℕ, ◌<◌, ◌≤◌, Bool, true, false, not, List, [], ◌∷◌, length, get_or, drop, ap, sym, subst, ◌∙◌, arith, Bor, Option, Some, None}
 use Rattle.std.specs.Prelude.{IsTrue, Contains, MatchOption, codes, is_some}
 use Rattle.std.proofs.lemmas.Bool.{not-false}
 use Rattle.std.proofs.lemmas.List.{get_or_default}
 use Rattle.gadget_model.specs.Circuit.{Node, share, random, copy, sum_of, product_of, Variable}
-use Rattle.gadget_tree.specs.declared.var.Var.{Var}
 use Rattle.gadget_tree.specs.declared.var.VarKind.{VarKind}
 use Rattle.gadget_tree.specs.LinearForm.{names_of, name_at, is_stem, WritesNode}
 use Rattle.gadget_tree.specs.Reading.{Reads, IsSum, IsExpression, IsAssignment}
-use Rattle.gadget_tree.specs.Seen.{variables_of, node_of}
+use Rattle.gadget_tree.specs.Seen.{node_of}
 use Rattle.gadget_tree.proofs.Texts.{texts}
 use Rattle.gadget_tree.proofs.Variables.{length-names_of}
 

@@ -1,9 +1,6 @@
 -- Lists of texts, as the code has them.
-use Rattle.std.proofs.Common.{◌≡◌, ℕ, zero, suc, ◌<◌, ◌≤◌, ◌-◌, ◌+◌, ◌&&◌, List, [], ◌∷◌, map, length, get_or, take, drop, refl, ap, sym, ◌∙◌, arith, Bor}
-use Rattle.std.specs.List.{list_all}
-use Rattle.std.specs.Char.{is_ascii_digit}
-use Rattle.std.specs.Prelude.{◌||◌}
-use Rattle.gadget_tree.specs.LinearForm.{without_empty_last, is_stem, starts_stem}
+use Rattle.std.proofs.Common.{◌≡◌, ℕ, zero, suc, ◌<◌, ◌≤◌, ◌+◌, List, [], ◌∷◌, map, length, get_or, take, drop, refl, ap, sym, ◌∙◌, arith, Bor}
+use Rattle.gadget_tree.specs.LinearForm.{without_empty_last}
 
 abbrev pub texts : List (Bor (List ℕ)) → List (List ℕ)
 texts ws = map (λ w. w.now) ws

@@ -1,5 +1,5 @@
 -- What the parts of the reader say of a line: what it says in the linear form, or that it says nothing.
-use Rattle.std.specs.Prelude.{◌≡◌, ℕ, ◌+◌, ◌<◌, ◌≤◌, IsTrue, List, [], ◌∷◌, map, length, All, AllPairs, Contains, Option, Some, None, Result, Err, codes}
+use Rattle.std.specs.Prelude.{◌≡◌, ℕ, ◌<◌, ◌≤◌, IsTrue, List, [], ◌∷◌, length, All, Contains, Option, Some, None, Result, Err, codes}
 use Rattle.gadget_model.specs.Circuit.{Node, share, random, copy, sum_of, product_of, Variable, Circuit}
 use Rattle.gadget_tree.specs.LinearForm.{is_stem, names_of, name_at, words_of, WritesNode, OperationLines, EndOfFile}
 

@@ -1,4 +1,4 @@
-use Rattle.std.proofs.Common.{◌≡◌, ◌≤◌, ℕ, List, Bor, length, map, ap, sym, subst, ◌∙◌, arith, eqb, MatchResult, Ok, Err}
+use Rattle.std.proofs.Common.{◌≡◌, ℕ, List, Bor, length, ap, subst, ◌∙◌, arith, eqb, MatchResult, Ok, Err}
 use Rattle.std.specs.List.{slice_split}
 use Rattle.std.proofs.lemmas.List.{length-map}
 use Rattle.std.proofs.lemmas.List.Sums.{count_by-le-length}

@@ -1,10 +1,9 @@
-use Rattle.std.proofs.Common.{◌≡◌, ◌≤◌, ◌+◌, ℕ, List, Bor, length, drop, refl, ap, sym, subst, ◌∙◌, arith, inl, inr, Result, Ok, Err}
+use Rattle.std.proofs.Common.{ℕ, List, length, refl, ap, subst, ◌∙◌, arith, inl, Ok}
 use Rattle.std.proofs.lemmas.List.{length-map}
-use Rattle.gadget_model.specs.Circuit.{Circuit}
-use Rattle.gadget_tree.specs.LinearForm.{AreOutputShares, share_variables, linear_gadget, EndOfFile, LinesSay}
+use Rattle.gadget_tree.specs.LinearForm.{AreOutputShares, share_variables, linear_gadget}
 use Rattle.gadget_tree.specs.Seen.{variables_of, variable_of}
 use Rattle.gadget_tree.proofs.MadeGadgets.{gadget_from_lines}
-use Rattle.gadget_tree.proofs.NextLines.{reads_some, reads_none}
+use Rattle.gadget_tree.proofs.NextLines.{reads_some}
 use Rattle.gadget_tree.proofs.OperationLines.{behind_operations}
 use Rattle.gadget_tree.proofs.ShareVariables.{length-share_variables-le}
 use Rattle.gadget_tree.proofs.Texts.{texts}

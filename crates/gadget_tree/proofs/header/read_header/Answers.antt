@@ -1,4 +1,4 @@
-use Rattle.std.proofs.Common.{◌≡◌, ◌≤◌, ℕ, List, [], get_or, length, Bor, sym, subst, arith}
+use Rattle.std.proofs.Common.{◌≤◌, ℕ, List, [], get_or, length, Bor, sym, subst, arith}
 use Rattle.gadget_tree.specs.LinearForm.{IsSharesLine, IsInLine, IsOutLine}
 use Rattle.gadget_tree.proofs.NextLines.{reads_some, reads_none, refused_at_2, refused_at_3, behind_headers}
 use Rattle.gadget_tree.proofs.header.read_header.Goals as goal

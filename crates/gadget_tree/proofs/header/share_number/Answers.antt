@@ -1,4 +1,4 @@
-use Rattle.std.proofs.Common.{◌<◌, ◌≤◌, ◌≡◌, length, get_or, arith, inl, inr}
+use Rattle.std.proofs.Common.{arith, inl, inr}
 use Rattle.gadget_tree.proofs.Decimals.{one_digit, two_digits, small_decimal}
 use Rattle.gadget_tree.proofs.header.share_number.Goals as goal
 use Rattle.gadget_tree.proofs.header.share_number.Goals.{else-word-eq1-via-then-word-eq1+then-word-ge49+else-word-le57, else-word-eq1-via-then-word-eq1+else-word-ge49, else-word-eq1-via-else-word-eq1, else-word-eq2-via-then-word-eq2+then-word-eq49+then-word-ge48+else-word-le54, else-word-eq2-via-then-word-eq2+then-word-eq49+else-word-ge48, else-word-eq2-via-then-word-eq2+else-word-eq49, else-word-eq2-via-else-word-eq2}

@@ -1,11 +1,11 @@
-use Rattle.std.proofs.Common.{ℕ, ap, sym, ◌∙◌, ◌≡◌, ◌≤◌, ◌+◌, get_or, map, drop, length, Bor, List, arith, Option}
+use Rattle.std.proofs.Common.{ℕ, ap, sym, ◌∙◌, ◌≡◌, ◌≤◌, ◌+◌, get_or, drop, length, Bor, List, arith}
 use Rattle.std.specs.Prelude.{All, IsTrue}
 use Rattle.std.proofs.lemmas.Bool.{not-false, not-true}
 use Rattle.std.proofs.lemmas.Bool.Decides.{not_from_Decides}
 use Rattle.std.proofs.lemmas.Result.{IfOk-weaker}
 use Rattle.std.proofs.lemmas.Slice.Eq.{bytes_eq-Decides}
 use Rattle.gadget_tree.specs.LinearForm.{is_stem}
-use Rattle.gadget_tree.specs.Reading.{Reads, IsStemsLine}
+use Rattle.gadget_tree.specs.Reading.{IsStemsLine}
 use Rattle.gadget_tree.proofs.Texts.{texts}
 use Rattle.gadget_tree.proofs.HeaderLines.{reads_same, stems_line-says, stems_line-tests}
 use Rattle.gadget_tree.proofs.header.stems_line.Goals as goal

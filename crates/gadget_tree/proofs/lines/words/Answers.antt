@@ -1,4 +1,4 @@
-use Rattle.std.proofs.Common.{ℕ, rules, eqb}
+use Rattle.std.proofs.Common.{rules, eqb}
 use Rattle.std.proofs.lemmas.Iterator.Consumers.{map_from_collect}
 use Rattle.std.proofs.lemmas.Iterator.Splits.{YieldsList-from_slice_split}
 use Rattle.gadget_tree.proofs.lines.words.Goals as goal

@@ -1,4 +1,4 @@
-use Rattle.std.proofs.Common.{◌≡◌, ℕ, ◌<◌, ◌≤◌, ◌+◌, [], List, get_or, length, arith, ap, sym, ◌∙◌, below_more}
+use Rattle.std.proofs.Common.{[], arith, ap, sym, ◌∙◌, below_more}
 use Rattle.std.proofs.lemmas.List.{get_or_default}
 use Rattle.gadget_tree.specs.declared.var.Var.{Var}
 use Rattle.gadget_tree.specs.LinearForm.{names_of}

@@ -1,7 +1,7 @@
 use Rattle.std.proofs.Common.{◌∙◌, ◌+◌, ◌*◌, ap, ℕ, List}
 use Rattle.gadget_model.specs.Circuit.{share, Variable}
 use Rattle.gadget_tree.specs.LinearForm.{share_name}
-use Rattle.gadget_tree.specs.Seen.{variables_of, variable_of}
+use Rattle.gadget_tree.specs.Seen.{variables_of}
 use Rattle.gadget_tree.proofs.Pushes.{map-range_push}
 use Rattle.gadget_tree.proofs.Variables.{variables_of-push}
 use Rattle.gadget_tree.proofs.shares.push_share_vars.Goals as goal
