@@ -2,3 +2,5 @@ pub mod Seen
 pub mod Gadgets
 pub mod Inside
 pub mod LinearForm
+pub mod Reading
+pub mod Refusals

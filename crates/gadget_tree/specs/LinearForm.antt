@@ -73,11 +73,14 @@ pub record IsOutLine (n : ℕ) (inputs : List (List ℕ)) (line : List ℕ) (out
   pub distinct : AreDistinct (share_names n inputs ++ share_names n outputs)
   pub words : words_of line ≡ codes "#OUT" ∷ outputs
 
--- The variables of the input shares, by input and then index, from input k on. Their line is that of `#IN`.
+-- the variables of the n shares of input k; their line is that of `#IN`
+abbrev pub shares_of_input : ℕ → ℕ → List ℕ → List Variable
+shares_of_input n k stem = map (λ i. record { name = share_name stem i; node = share (16 * k + i); line = 2 }) (range_with_len 0 n)
+
+-- the variables of the input shares, by input and then index, from input k on
 abbrev pub share_variables : ℕ → ℕ → List (List ℕ) → List Variable
 share_variables n k [] = []
-share_variables n k (stem ∷ stems) =
-    map (λ i. record { name = share_name stem i; node = share (16 * k + i); line = 2 }) (range_with_len 0 n) ++ share_variables n (suc k) stems
+share_variables n k (stem ∷ stems) = shares_of_input n k stem ++ share_variables n (suc k) stems
 
 -- the words write a node behind a name: `x = a` or `x = a + b`, with names of earlier variables
 abbrev pub WritesNode : List Variable → List (List ℕ) → List ℕ → Node → Type 0
@@ -95,10 +98,18 @@ pub record IsOperationLine (number : ℕ) (earlier : List Variable) (line : List
   pub number_of : v.line ≡ number
   pub writes : WritesNode earlier (words_of line) v.name v.node
 
+-- v is the number of a variable with this name
+abbrev pub IsNamed : List Variable → List ℕ → ℕ → Type 0
+IsNamed variables name v = (v < length variables) × (name_at variables v ≡ name)
+
 -- each output share is the variable of its name
 abbrev pub AreOutputShares : ℕ → List (List ℕ) → List Variable → List ℕ → Type 0
-AreOutputShares n outputs variables output_shares =
-    AllZip (λ name v. (v < length variables) × (name_at variables v ≡ name)) (share_names n outputs) output_shares
+AreOutputShares n outputs variables output_shares = AllZip (IsNamed variables) (share_names n outputs) output_shares
+
+-- a gadget of the linear form, which has no randoms
+abbrev pub linear_gadget : ℕ → List (List ℕ) → List (List ℕ) → List ℕ → List Variable → Circuit
+linear_gadget n inputs outputs output_shares variables =
+    record { shares = n; inputs = inputs; randoms = 0; outputs = outputs; output_shares = output_shares; variables = variables }
 
 -- The next line is allowed, and what follows goes by what it says; or the file ends here or the line isn't allowed,
 -- and its number is the answer.
@@ -117,14 +128,26 @@ OperationLines End number earlier (line ∷ lines) r =
 abbrev pub EndOfFile : ℕ → List (List ℕ) → List (List ℕ) → Result Circuit ℕ → ℕ → List Variable → Type 0
 EndOfFile n inputs outputs r number variables =
     ((shares : List ℕ) × AreOutputShares n outputs variables shares
-    × (r ≡ Ok (record { shares = n; inputs = inputs; randoms = 0; outputs = outputs; output_shares = shares; variables = variables })))
+    × (r ≡ Ok (linear_gadget n inputs outputs shares variables)))
     ⊎ (((shares : List ℕ) → AreOutputShares n outputs variables shares → ⊥) × (r ≡ Err number))
+
+-- what is said behind the line `#OUT`
+abbrev pub AfterOut : ℕ → List (List ℕ) → List (List ℕ) → List (List ℕ) → Result Circuit ℕ → Type 0
+AfterOut n inputs outputs lines r = OperationLines (EndOfFile n inputs outputs r) 4 (share_variables n 0 inputs) lines r
+
+-- what is said behind the line `#IN`
+abbrev pub AfterIn : ℕ → List (List ℕ) → List (List ℕ) → Result Circuit ℕ → Type 0
+AfterIn n inputs lines r = NextLine (IsOutLine n inputs) 3 lines (λ outputs after. AfterOut n inputs outputs after r) r
+
+-- what is said behind the line `#SHARES`
+abbrev pub AfterShares : ℕ → List (List ℕ) → Result Circuit ℕ → Type 0
+AfterShares n lines r = NextLine (IsInLine n) 2 lines (λ inputs after. AfterIn n inputs after r) r
+
+-- what the lines of a file say
+abbrev pub LinesSay : List (List ℕ) → Result Circuit ℕ → Type 0
+LinesSay lines r = NextLine IsSharesLine 1 lines (λ n after. AfterShares n after r) r
 
 -- What a file says: the gadget, or the first line that the form does not allow at its place. Where all lines are allowed
 -- but a line or an output share is missing, that is the number of lines and 1.
 unfoldable pub FileSays : List ℕ → Result Circuit ℕ → Type 0
-FileSays bytes r =
-    NextLine IsSharesLine 1 (lines_of bytes) (λ n after_shares.
-    NextLine (IsInLine n) 2 after_shares (λ inputs after_in.
-    NextLine (IsOutLine n inputs) 3 after_in (λ outputs after_out.
-    OperationLines (EndOfFile n inputs outputs r) 4 (share_variables n 0 inputs) after_out r) r) r) r
+FileSays bytes r = LinesSay (lines_of bytes) r

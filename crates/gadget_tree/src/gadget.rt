@@ -2,8 +2,10 @@
 
 ghost use Rattle.std.specs.Prelude.{◌≤◌, ◌≡◌, ℕ, ◌+◌, ◌*◌, ◌/◌, ◌%◌, ◌<◌, map, length, slice_index};
 ghost use Rattle.gadget_tree.specs.Seen.{variables_of};
-ghost use Rattle.gadget_tree.specs.Gadgets.{IsGadget};
+ghost use Rattle.gadget_tree.specs.Gadgets.{IsGadget, IsOutOf};
+ghost use Rattle.gadget_tree.specs.LinearForm.{linear_gadget};
 
+use crate::header::Header;
 use crate::name::Name;
 use crate::var::Var;
 use std::marker::Model;
@@ -33,6 +35,26 @@ impl Model for Gadget {
 }
 
 impl Gadget {
+    /// A gadget without randoms.
+    pub(crate) fn new(header: Header, output_shares: Vec<u16>, vars: Vec<Var>) -> Gadget
+        requires { IsGadget (linear_gadget header.shares header.inputs.items header.outputs.items output_shares.items (variables_of vars.items)) }
+        ensures { result ≡ linear_gadget header.shares header.inputs.items header.outputs.items output_shares.items (variables_of vars.items) }
+    {
+        let Header {
+            shares,
+            inputs,
+            outputs,
+        } = header;
+        Gadget {
+            shares,
+            inputs,
+            randoms: 0,
+            outputs,
+            output_shares,
+            vars,
+        }
+    }
+
     /// Into how many shares each input and output is split.
     pub fn shares(&self) -> u8
         ensures shares { result ≡ self.now.shares }
@@ -71,5 +93,23 @@ impl Gadget {
         ensures gadget { IsGadget self.now }
     {
         &self.vars
+    }
+
+    /// The variable of a share of an output, both counted from 0.
+    pub fn out_var(&self, output: u8, index: u8) -> u16
+        requires output { output < length self.now.outputs }
+        requires index { index < self.now.shares }
+        ensures { result ≡ slice_index self.now.output_shares (self.now.shares * output + index) }
+    {
+        self.output_shares[self.shares as usize * output as usize + index as usize]
+    }
+
+    /// Which share of which output a variable is, as the output and the index.
+    pub fn out_of(&self, var: u16) -> Option<(u8, u8)>
+        ensures { IsOutOf self.now var result }
+    {
+        let place = self.output_shares.iter().position(|share| *share == var)?;
+        let shares = self.shares as usize;
+        Some(((place / shares) as u8, (place % shares) as u8))
     }
 }

@@ -1,7 +1,8 @@
 //! Names.
 
-ghost use Rattle.std.specs.Prelude.{◌≡◌};
+ghost use Rattle.std.specs.Prelude.{◌≡◌, ◌↔◌, IfOk, IsTrue};
 
+use std::alloc::{AllocError, Global};
 use std::marker::Model;
 
 /// The name of an input, an output or a variable, as the file writes it. Contracts see its bytes.
@@ -19,10 +20,25 @@ impl Model for Name {
 }
 
 impl Name {
+    /// A copy of a word as a name.
+    pub(crate) fn new(alloc: Global, word: &[u8]) -> Result<Name, AllocError>
+        ensures { IfOk result (λ name. name ≡ word.now) }
+    {
+        let bytes = Vec::from_slice(alloc, word)?;
+        Ok(Name { bytes })
+    }
+
     /// The bytes of the name.
     pub fn bytes(&self) -> &[u8]
         ensures { result.now ≡ self.now }
     {
         &self.bytes
+    }
+
+    /// Whether a word is this name.
+    pub(crate) fn is(&self, word: &[u8]) -> bool
+        ensures { IsTrue result ↔ (self.now ≡ word.now) }
+    {
+        *self.bytes == *word
     }
 }

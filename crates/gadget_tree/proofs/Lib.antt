@@ -1,0 +1,14 @@
+pub mod Decimals
+pub mod HeaderLines
+pub mod Lists
+pub mod MadeGadgets
+pub mod NamesOf
+pub mod NextLines
+pub mod OneReading
+pub mod OperationLines
+pub mod Operations
+pub mod Prefixes
+pub mod Pushes
+pub mod ShareVariables
+pub mod Texts
+pub mod Variables

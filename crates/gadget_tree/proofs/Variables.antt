@@ -1,0 +1,21 @@
+-- The code's variables as the model's.
+use Rattle.std.proofs.Common.{◌≡◌, ℕ, ◌<◌, List, [], ◌∷◌, ◌++◌, length, get_or, ap, ◌∙◌, arith}
+use Rattle.std.proofs.lemmas.List.{length-map, get_or-map, map-append}
+use Rattle.gadget_model.specs.Circuit.{Variable}
+use Rattle.gadget_tree.specs.declared.var.Var.{Var}
+use Rattle.gadget_tree.specs.LinearForm.{names_of, name_at}
+use Rattle.gadget_tree.specs.Seen.{variables_of, variable_of}
+
+pub length-names_of : (vs : List Variable) → length (names_of vs) ≡ length vs
+length-names_of vs = length-map vs (λ (v : Variable). v.name)
+
+pub length-variables_of : (vs : List Var) → length (names_of (variables_of vs)) ≡ length vs
+length-variables_of vs = length-names_of (variables_of vs) ∙ length-map vs variable_of
+
+pub name_at-variables_of : (vs : List Var) (k : ℕ) (d : Var) → k < length vs → name_at (variables_of vs) k ≡ (get_or vs k d).name
+name_at-variables_of vs k d l =
+    let e = length-map vs variable_of in
+    get_or-map (λ (v : Variable). v.name) (variables_of vs) k (variable_of d) [] (omega arith) ∙ ap (λ (v : Variable). v.name) (get_or-map variable_of vs k d (variable_of d) l)
+
+pub variables_of-push : (vs : List Var) (v : Var) → variables_of (vs ++ v ∷ []) ≡ variables_of vs ++ variable_of v ∷ []
+variables_of-push vs v = map-append variable_of vs (v ∷ [])

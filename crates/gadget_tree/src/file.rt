@@ -1,0 +1,114 @@
+//! Reading a gadget file.
+
+ghost use Rattle.std.specs.Prelude.{◌≡◌, ℕ, List, ◌+◌, ◌≤◌, [], map, drop, length, IfOk, IfErr, MatchResult, Result, Ok, Err};
+ghost use Rattle.std.specs.List.{AllZip};
+ghost use Rattle.gadget_model.specs.Circuit.{Circuit};
+ghost use Rattle.gadget_tree.specs.LinearForm.{AreOutputShares, IsNamed, LinesSay, FileSays};
+ghost use Rattle.gadget_tree.specs.Reading.{Reads, GoesOn, StopsAt};
+ghost use Rattle.gadget_tree.specs.Refusals.{Refuses};
+ghost use Rattle.gadget_tree.specs.Seen.{variables_of};
+
+use crate::file_error::FileError;
+use crate::gadget::Gadget;
+use crate::header::read_header;
+use crate::lines::lines;
+use crate::name::Name;
+use crate::operation::{number, operation};
+use crate::shares::{extend_share_names, share_vars};
+use crate::var::Var;
+use std::alloc::{AllocError, Global};
+
+// The lines behind the headers.
+fn operation_lines<'a, 'b>(lines: &'a [&'b [u8]]) -> &'a [&'b [u8]]
+    requires { 3 ≤ length lines.now }
+    ensures { result.now ≡ drop 3 lines.now }
+{
+    &lines[3..]
+}
+
+// The variables so far, and behind them those that the operation lines assign.
+fn read_operations(
+    alloc: Global,
+    lines: &[&[u8]],
+    mut vars: Vec<Var>,
+) -> Result<Vec<Var>, FileError>
+    requires few { length vars.items ≤ 511 }
+    requires lines { length lines.now ≤ 1048577 }
+    ensures { MatchResult result
+        (λ v. (length v.items ≤ 511) × GoesOn 4 (variables_of vars.items) (map (λ w. w.now) lines.now) (4 + length lines.now) (variables_of v.items) [])
+        (Refuses (λ line. StopsAt line 4 (variables_of vars.items) (map (λ w. w.now) lines.now))) }
+{
+    for (i, line) in lines.iter().enumerate() {
+        let number = 4 + i as u32;
+        let Some(var) = operation(alloc, &vars, line, number)? else {
+            return Err(FileError::NotYet(number));
+        };
+        vars.push(var)?;
+    }
+    Ok(vars)
+}
+
+// The numbers of the variables with these names.
+fn numbers(alloc: Global, vars: &[Var], names: &[Name]) -> Result<Option<Vec<u16>>, AllocError>
+    requires { length vars.now ≤ 511 }
+    ensures { IfOk result (λ o. Reads (λ v. v.items) (AllZip (IsNamed (variables_of vars.now)) names.now) o) }
+{
+    let mut numbers = Vec::new(alloc);
+    for name in names {
+        let Some(number) = number(vars, name.bytes()) else {
+            return Ok(None);
+        };
+        numbers.push(number)?;
+    }
+    Ok(Some(numbers))
+}
+
+// The variables of the output shares, where each is assigned.
+fn output_shares(
+    alloc: Global,
+    vars: &[Var],
+    shares: u8,
+    outputs: &[Name],
+) -> Result<Option<Vec<u16>>, AllocError>
+    requires { length vars.now ≤ 511 }
+    ensures { IfOk result (λ o. Reads (λ v. v.items) (AreOutputShares shares outputs.now (variables_of vars.now)) o) }
+{
+    let mut names = Vec::new(alloc);
+    extend_share_names(alloc, &mut names, shares, outputs)?;
+    numbers(alloc, vars, &names)
+}
+
+// The gadget that lines say.
+fn read_lines(alloc: Global, lines: &[&[u8]]) -> Result<Gadget, FileError>
+    requires { length lines.now ≤ 1048577 }
+    ensures { MatchResult result
+        (λ g. LinesSay (map (λ w. w.now) lines.now) (Ok g))
+        (Refuses (λ line. LinesSay (map (λ w. w.now) lines.now) (Err line))) }
+{
+    let header = read_header(alloc, lines)?;
+    let shares = share_vars(alloc, header.shares, &header.inputs)?;
+    let vars = read_operations(alloc, operation_lines(lines), shares)?;
+    let Some(output_shares) = output_shares(alloc, &vars, header.shares, &header.outputs)? else {
+        return Err(FileError::NotYet(lines.len() as u32 + 1));
+    };
+    Ok(Gadget::new(header, output_shares, vars))
+}
+
+/// The gadget that a file of the linear form says: `#SHARES n`, `#IN a b ..`, `#OUT d ..` and then a line for each copy
+/// `x = a` and each sum `x = a + b`. Otherwise the first line that the form does not allow at its place; where only a line
+/// or an output share is missing, that is the number of lines and 1. A file has at most a mebibyte. Time is at most the
+/// number of lines times that of variables.
+pub fn read_gadget(alloc: Global, bytes: &[u8]) -> Result<Gadget, FileError>
+    requires { length bytes.now ≤ 1048576 }
+    ensures ok { IfOk result (λ g. FileSays bytes.now (Ok g)) }
+    ensures not_yet { IfErr result (Refuses (λ line. FileSays bytes.now (Err line))) }
+{
+    let lines = lines(alloc, bytes)?;
+    read_lines(alloc, &lines)
+}
+
+/// A file says one thing at most, so that a gadget is read exactly where the file says it, and a line is refused exactly where
+/// it is the first that is not allowed.
+pub fn one_reading_law()
+    ensures { (bytes : List ℕ) (r s : Result Circuit ℕ) → FileSays bytes r → FileSays bytes s → r ≡ s }
+{}
