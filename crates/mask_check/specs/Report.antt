@@ -7,21 +7,21 @@ abbrev pub newline : List ℕ
 newline = 10 ∷ []
 
 -- the check that was asked for, of order t
-abbrev pub check_line : ℕ → List ℕ
+unfoldable pub check_line : ℕ → List ℕ
 check_line t = codes "check ni " ++ decimal t ++ newline
 
 -- the gadget that was checked
-abbrev pub gadget_line : Circuit → List ℕ
+unfoldable pub gadget_line : Circuit → List ℕ
 gadget_line g =
     codes "gadget shares " ++ decimal g.shares ++ codes " inputs " ++ decimal (length g.inputs) ++ codes " outputs " ++ decimal (length g.outputs)
     ++ codes " randoms " ++ decimal g.randoms ++ codes " variables " ++ decimal (length g.variables) ++ newline
 
 -- how many items there are, of how many of them a set has at most, and how many sets there are
-abbrev pub space_line : ℕ → ℕ → ℕ → List ℕ
-space_line items t sets = codes "space items " ++ decimal items ++ codes " size " ++ decimal t ++ codes " tuples " ++ decimal sets ++ newline
+unfoldable pub space_line : ℕ → ℕ → ℕ → List ℕ
+space_line items size sets = codes "space items " ++ decimal items ++ codes " size " ++ decimal size ++ codes " tuples " ++ decimal sets ++ newline
 
 -- The head: the check, the gadget, and the sets of probes on its variables that are asked about.
-unfoldable pub head : Circuit → ℕ → ℕ → List ℕ
+abbrev pub head : Circuit → ℕ → ℕ → List ℕ
 head g t sets = check_line t ++ gadget_line g ++ space_line (length g.variables) t sets
 
 -- The probes are numbers of the gadget's variables.

@@ -1,7 +1,7 @@
 //! The text of a report.
-ghost use Rattle.std.specs.Prelude.{◌≡◌, ◌<◌, ◌++◌, length, All, IfOk, OnOk};
+ghost use Rattle.std.specs.Prelude.{◌≡◌, ◌<◌, ◌++◌, length, All, IfOk, OnOk, string_bytes};
 ghost use Rattle.gadget_tree.specs.LinearForm.{name_at};
-ghost use Rattle.mask_check.specs.Report.{head as head_of, name_word, fail_line, verdict, report as report_of, AreVariables};
+ghost use Rattle.mask_check.specs.Report.{AreVariables, check_line as check_line_of, fail_line, gadget_line as gadget_line_of, head as head_of, name_word, report as report_of, space_line as space_line_of, verdict};
 
 use gadget_tree::Gadget;
 use itoa::Buffer;
@@ -34,18 +34,39 @@ pub fn report(
 fn head(alloc: Global, gadget: &Gadget, t: u8, sets: u64) -> Result<Vec<u8>, OutOfMemory>
     ensures { IfOk result (λ bytes. bytes.items ≡ head_of gadget.now t sets) }
 {
+    let mut text = check_line(alloc, t)?;
+    text.push_str(&gadget_line(alloc, gadget)?)?;
+    text.push_str(&space_line(alloc, gadget.vars().len(), t, sets)?)?;
+    Ok(text.into_bytes())
+}
+
+/// The line of the check that was asked for.
+#[tactic(auto, unfolding(crate::specs::Report::check_line))]
+fn check_line(alloc: Global, t: u8) -> Result<String, OutOfMemory>
+    ensures { IfOk result (λ text. string_bytes text ≡ check_line_of t) }
+{
+    Ok(format!(in alloc; "check ni {t}\n")?)
+}
+
+/// The line of the gadget that was checked.
+fn gadget_line(alloc: Global, gadget: &Gadget) -> Result<String, OutOfMemory>
+    ensures { IfOk result (λ text. string_bytes text ≡ gadget_line_of gadget.now) }
+{
     let shares = gadget.shares();
     let inputs = gadget.inputs().len();
     let outputs = gadget.outputs().len();
     let randoms = gadget.randoms();
     let variables = gadget.vars().len();
-    let text = format!(
-        in alloc;
-        "check ni {t}\n\
-         gadget shares {shares} inputs {inputs} outputs {outputs} randoms {randoms} variables {variables}\n\
-         space items {variables} size {t} tuples {sets}\n"
-    )?;
-    Ok(text.into_bytes())
+    Ok(
+        format!(in alloc; "gadget shares {shares} inputs {inputs} outputs {outputs} randoms {randoms} variables {variables}\n")?,
+    )
+}
+
+/// The line of the sets of at most `size` of the `items`, of which there are `sets`.
+fn space_line(alloc: Global, items: usize, size: u8, sets: u64) -> Result<String, OutOfMemory>
+    ensures { IfOk result (λ text. string_bytes text ≡ space_line_of items size sets) }
+{
+    Ok(format!(in alloc; "space items {items} size {size} tuples {sets}\n")?)
 }
 
 /// Adds the line of a failing set.
