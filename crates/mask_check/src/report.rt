@@ -57,9 +57,9 @@ fn gadget_line(alloc: Global, gadget: &Gadget) -> Result<String, OutOfMemory>
     let outputs = gadget.outputs().len();
     let randoms = gadget.randoms();
     let variables = gadget.vars().len();
-    Ok(
-        format!(in alloc; "gadget shares {shares} inputs {inputs} outputs {outputs} randoms {randoms} variables {variables}\n")?,
-    )
+    Ok(format!(in alloc;
+        "gadget shares {shares} inputs {inputs} outputs {outputs} randoms {randoms} variables {variables}\n"
+    )?)
 }
 
 /// The line of the sets of at most `size` of the `items`, of which there are `sets`.
