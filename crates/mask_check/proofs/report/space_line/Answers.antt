@@ -1,5 +1,5 @@
 -- The format joins its pieces from the right.
-use Rattle.std.proofs.Common.{◌≡◌, append_assoc}
+use Rattle.std.proofs.Common.{append_assoc}
 use Rattle.mask_check.specs.Report.{space_line}
 use Rattle.mask_check.proofs.report.space_line.Goals as goal
 

@@ -1,5 +1,5 @@
 -- The code's variable has the name that the model's has.
-use Rattle.std.proofs.Common.{◌≡◌, ◌<◌, ◌∙◌, length}
+use Rattle.std.proofs.Common.{◌<◌, length}
 use Rattle.gadget_tree.specs.Seen.{variables_of}
 use Rattle.mask_check.proofs.ReportTexts.{name_at-variables_of}
 use Rattle.mask_check.proofs.report.variable_name.Goals as goal
