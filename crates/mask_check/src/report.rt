@@ -1,7 +1,7 @@
 //! The text of a report.
 ghost use Rattle.std.specs.Prelude.{◌≡◌, ◌<◌, ◌++◌, length, All, IfOk, OnOk, string_bytes};
 ghost use Rattle.gadget_tree.specs.LinearForm.{name_at};
-ghost use Rattle.mask_check.specs.Report.{AreVariables, check_line as check_line_of, fail_line, gadget_line as gadget_line_of, head as head_of, name_word, report as report_of, space_line as space_line_of, verdict};
+ghost use Rattle.mask_check.specs.Report.{AreVariables, check_line as check_line_of, gadget_line as gadget_line_of, space_line as space_line_of, head as head_of, name_word, fail_line, verdict, report as report_of};
 
 use gadget_tree::Gadget;
 use itoa::Buffer;
@@ -9,8 +9,8 @@ use mask_bytes::OutOfMemory;
 use std::alloc::Global;
 use tuple_order::Tuple;
 
-/// The report of a check of order `t`: which gadget was checked, over how many sets of probes, a line for each of the
-/// `failing` sets in their order, and the verdict.
+/// The report of a check of order `t`: the check, the gadget, and the number `sets` of the sets of probes that were asked
+/// about; a line for each of the `failing` sets, in their order; and the verdict. An `Err` says only that memory ran out.
 #[tactic(auto, unfolding(crate::specs::Report::report))]
 pub fn report(
     alloc: Global,
@@ -80,8 +80,7 @@ fn add_fail_line(bytes: &mut Vec<u8>, gadget: &Gadget, probes: &[u16]) -> Result
     for probe in probes {
         add_name(bytes, gadget, *probe)?;
     }
-    bytes.push(b'\n')?;
-    Ok(())
+    Ok(bytes.push(b'\n')?)
 }
 
 /// Adds a space and the name of the variable numbered `variable`.
@@ -90,8 +89,7 @@ fn add_name(bytes: &mut Vec<u8>, gadget: &Gadget, variable: u16) -> Result<(), O
     ensures { OnOk result (bytes.new.items ≡ bytes.old.items ++ name_word gadget.now variable) }
 {
     bytes.push(b' ')?;
-    bytes.extend_from_slice(variable_name(gadget, variable))?;
-    Ok(())
+    Ok(bytes.extend_from_slice(variable_name(gadget, variable))?)
 }
 
 /// The name of the variable numbered `variable`.
@@ -106,10 +104,10 @@ fn variable_name(gadget: &Gadget, variable: u16) -> &[u8]
 fn add_verdict(bytes: &mut Vec<u8>, failing: &[Tuple]) -> Result<(), OutOfMemory>
     ensures { OnOk result (bytes.new.items ≡ bytes.old.items ++ verdict failing.now) }
 {
-    bytes.extend_from_slice(if failing.is_empty() {
+    let line: &[u8] = if failing.is_empty() {
         b"verdict yes\n"
     } else {
         b"verdict no\n"
-    })?;
-    Ok(())
+    };
+    Ok(bytes.extend_from_slice(line)?)
 }
