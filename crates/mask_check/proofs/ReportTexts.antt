@@ -1,0 +1,32 @@
+-- The variables that a report names.
+use Rattle.std.proofs.Common.{◌≡◌, ℕ, zero, suc, ◌<◌, List, [], ◌∷◌, length, get_or, refl, arith, All, Contains}
+use Rattle.std.proofs.lemmas.List.Elements.{All-weaker, All-contains_itself}
+use Rattle.gadget_model.specs.Circuit.{Circuit}
+use Rattle.tuple_model.specs.Tuples.{IsTuple}
+use Rattle.tuple_model.specs.Minimal.{IsAnswer}
+use Rattle.tuple_model.proofs.Rising.{IsRising-member}
+use Rattle.tuple_model.proofs.Answers.{minimal-from_answer}
+use Rattle.gadget_tree.specs.declared.var.Var.{Var}
+use Rattle.gadget_tree.specs.Seen.{variables_of}
+use Rattle.gadget_tree.specs.LinearForm.{name_at}
+use Rattle.mask_check.specs.Report.{AreVariables}
+
+-- the name of a variable of the model is that of the code's variable with the same number
+pub name_at-variables_of : (vars : List Var) (k : ℕ) (v : Var) → k < length (variables_of vars) → name_at (variables_of vars) k ≡ (get_or vars k v).name
+name_at-variables_of [] k v h = absurd (omega arith)
+name_at-variables_of (x ∷ vars) zero v h = refl
+name_at-variables_of (x ∷ vars) (suc k) v h =
+    let below : k < length (variables_of vars) = omega arith in
+    name_at-variables_of vars k v below
+
+-- the items of a tuple are variables
+pub AreVariables-from_IsTuple : (g : Circuit) (size : ℕ) (t : List ℕ) → IsTuple (length g.variables) size t → AreVariables g t
+AreVariables-from_IsTuple g size t h =
+    All-weaker (Contains t) (λ v. v < length g.variables) (λ v k. (IsRising-member 0 (length g.variables) t v h.rising k).1) t (All-contains_itself t)
+
+-- the items of the tuples of an answer are variables
+pub AreVariables-from_answer : (Fails : List ℕ → Type 0) (g : Circuit) (size : ℕ) (answer : List (List ℕ)) → IsAnswer Fails (length g.variables) size answer →
+    All (AreVariables g) answer
+AreVariables-from_answer Fails g size answer h =
+    All-weaker (Contains answer) (AreVariables g) (λ t k. AreVariables-from_IsTuple g size t (minimal-from_answer Fails (length g.variables) size answer t h k).0) answer
+    (All-contains_itself answer)
