@@ -1,2 +1,4 @@
 pub mod Walks
 pub mod ReportTexts
+pub mod Decisions
+pub mod Completions

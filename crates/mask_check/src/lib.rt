@@ -1,12 +1,15 @@
 //! The check of a gadget file: from words and bytes to a report and a status.
 #![tactic(auto)]
 
+mod answer;
 pub mod line;
 mod minimal;
 mod report;
+mod run;
 pub mod status;
 pub mod words;
 
 pub use line::Line;
+pub use run::check;
 pub use status::{Status, UsageKind, exit_status, status_text};
 pub use words::settings;

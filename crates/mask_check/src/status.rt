@@ -2,10 +2,13 @@
 
 ghost use Rattle.std.specs.Prelude.{◌≡◌, ◌++◌, codes, decimal};
 ghost use Rattle.mask_check.specs.Texts.{text_of, exit_of};
+ghost use Rattle.mask_check.specs.Causes.{status_of_read, status_of_file};
+ghost use Rattle.mask_check.specs.declared.status.Status.TheVariants.{Usage, WriteFault, OutOfMemory};
 
 use crate::line::Line;
 use gadget_tree::FileError;
 use itoa::Buffer;
+use mask_bytes::{Failed, OutOfMemory, ReadError};
 
 /// What is wrong with the words of the command line.
 #[derive(Clone, Copy, Debug, PartialEq, Eq, Drop)]
@@ -33,6 +36,53 @@ pub enum Status {
     ReadFault,
     WriteFault,
     OutOfMemory,
+}
+
+impl From<UsageKind> for Status {
+    ghost from_gives = { λ kind status. status ≡ Usage kind };
+
+    fn from(kind: UsageKind) -> Status {
+        Status::Usage(kind)
+    }
+}
+
+impl From<ReadError> for Status {
+    ghost from_gives = { λ error status. status ≡ status_of_read error };
+
+    fn from(error: ReadError) -> Status {
+        match error {
+            ReadError::ReadFault => Status::ReadFault,
+            ReadError::TooLong => Status::TooLong,
+            ReadError::OutOfMemory => Status::OutOfMemory,
+        }
+    }
+}
+
+impl From<FileError> for Status {
+    ghost from_gives = { λ error status. status ≡ status_of_file error };
+
+    fn from(error: FileError) -> Status {
+        match error {
+            FileError::OutOfMemory => Status::OutOfMemory,
+            error => Status::File(error),
+        }
+    }
+}
+
+impl From<OutOfMemory> for Status {
+    ghost from_gives = { λ _ status. status ≡ OutOfMemory };
+
+    fn from(_error: OutOfMemory) -> Status {
+        Status::OutOfMemory
+    }
+}
+
+impl From<Failed> for Status {
+    ghost from_gives = { λ _ status. status ≡ WriteFault };
+
+    fn from(_error: Failed) -> Status {
+        Status::WriteFault
+    }
 }
 
 /// Puts the text of a status, without a line feed, in place of what `out` holds. It is empty where there is a report.

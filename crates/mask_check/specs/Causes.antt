@@ -1,0 +1,16 @@
+-- The statuses of the errors of the layers below. Want of memory is one status, wherever it came from.
+use Rattle.mask_bytes.specs.declared.error.ReadError.{ReadError}
+use Rattle.mask_bytes.specs.declared.error.ReadError.TheVariants as reads
+use Rattle.gadget_tree.specs.declared.file_error.FileError.{FileError}
+use Rattle.gadget_tree.specs.declared.file_error.FileError.TheVariants as files
+use Rattle.mask_check.specs.declared.status.Status.{Status}
+use Rattle.mask_check.specs.declared.status.Status.TheVariants as statuses
+
+abbrev pub status_of_read : ReadError → Status
+status_of_read reads.ReadFault = statuses.ReadFault
+status_of_read reads.TooLong = statuses.TooLong
+status_of_read reads.OutOfMemory = statuses.OutOfMemory
+
+abbrev pub status_of_file : FileError → Status
+status_of_file (files.NotYet line) = statuses.File (files.NotYet line)
+status_of_file files.OutOfMemory = statuses.OutOfMemory

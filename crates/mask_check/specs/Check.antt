@@ -1,0 +1,60 @@
+-- What a check says of a gadget file.
+use Rattle.std.specs.Prelude.{◌≡◌, ◌↔◌, ℕ, Bool, true, List, [], length, Option, IfSome, IsTrue, Ok, Err}
+use Rattle.std.specs.Io.KnownBytes.{IsAtEnd}
+use Rattle.gadget_model.specs.Circuit.{Circuit}
+use Rattle.tuple_model.specs.Tuples.{IsTuple, tuples}
+use Rattle.tuple_model.specs.Minimal.{IsAnswer}
+use Rattle.notions.specs.Ni.{Fails}
+use Rattle.gadget_tree.specs.LinearForm.{FileSays}
+use Rattle.gadget_tree.specs.declared.file_error.FileError.{FileError}
+use Rattle.gadget_tree.specs.declared.file_error.FileError.TheVariants as errors
+use Rattle.mask_check.specs.declared.status.Status.{Status}
+use Rattle.mask_check.specs.declared.status.Status.TheVariants as statuses
+use Rattle.mask_check.specs.Words.{words_ask}
+use Rattle.mask_check.specs.Report.{report}
+
+-- The text is the report of exactly the minimal failing sets of at most t probes, and the verdict is that no set fails.
+pub record Answers (g : Circuit) (t : ℕ) (secure : Bool) (text : List ℕ) : Type 0 where
+  pub failing : List (List ℕ)
+  pub minimal : IsAnswer (Fails g t) (length g.variables) t failing
+  pub reported : text ≡ report g t (length (tuples (length g.variables) t)) failing
+  pub listed : IsTrue secure ↔ (failing ≡ [])
+  pub none_fails : IsTrue secure ↔ ((probes : List ℕ) → IsTuple (length g.variables) t probes → Fails g t probes → ⊥)
+
+-- A check got as far as this verdict and this text: the words ask for ni t, all that was left of the source was read, where
+-- the source tells its bytes they are the file of a gadget, and the verdict and the text are those of this gadget.
+pub record Reaches (words : List (List ℕ)) (left left_after : Option (List ℕ)) (secure : Bool) (text : List ℕ) : Type 0 where
+  pub t : ℕ
+  pub asked : words_ask words ≡ Ok t
+  pub end : IsAtEnd left_after
+  pub gadget : Circuit
+  pub file : IfSome left (λ bytes. FileSays bytes (Ok gadget))
+  pub answers : Answers gadget t secure text
+
+-- A file is refused: all that was left of the source was read, and the line is the first that isn't allowed at its place.
+-- Want of memory is no refusal of a file.
+abbrev pub RefusesFile : Option (List ℕ) → Option (List ℕ) → FileError → Type 0
+RefusesFile left left_after (errors.NotYet line) = IsAtEnd left_after × IfSome left (λ bytes. FileSays bytes (Err line))
+RefusesFile left left_after errors.OutOfMemory = ⊥
+
+-- the answers after which nothing was written
+abbrev pub WritesNothing : Status → Type 0
+WritesNothing statuses.Yes = ⊥
+WritesNothing statuses.No = ⊥
+WritesNothing (statuses.Usage kind) = Unit {0}
+WritesNothing (statuses.File error) = Unit {0}
+WritesNothing statuses.TooLong = Unit {0}
+WritesNothing statuses.ReadFault = Unit {0}
+WritesNothing statuses.WriteFault = ⊥
+WritesNothing statuses.OutOfMemory = Unit {0}
+
+-- a verdict, or want of memory
+abbrev pub IsVerdict : Status → Type 0
+IsVerdict statuses.Yes = Unit {0}
+IsVerdict statuses.No = Unit {0}
+IsVerdict (statuses.Usage kind) = ⊥
+IsVerdict (statuses.File error) = ⊥
+IsVerdict statuses.TooLong = ⊥
+IsVerdict statuses.ReadFault = ⊥
+IsVerdict statuses.WriteFault = ⊥
+IsVerdict statuses.OutOfMemory = Unit {0}

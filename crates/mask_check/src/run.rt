@@ -1,0 +1,83 @@
+//! The top call.
+
+ghost use Rattle.std.specs.Prelude.{◌≡◌, ◌≢◌, ◌↔◌, ℕ, ◌≤◌, Bool, true, false, List, Some, Ok, Err, IfOk, IfErr, length, map, string_bytes};
+ghost use Rattle.std.specs.Io.KnownBytes.{append_known};
+ghost use Rattle.mask_bytes.specs.Counts.{Rose};
+ghost use Rattle.mask_bytes.specs.Flow.{IsLonger, LosesCount, AppendsProperPrefix};
+ghost use Rattle.gadget_model.specs.Circuit.{Circuit};
+ghost use Rattle.gadget_tree.specs.LinearForm.{FileSays};
+ghost use Rattle.mask_check.specs.Words.{words_ask};
+ghost use Rattle.mask_check.specs.Refusals.{Refuses};
+ghost use Rattle.mask_check.specs.Check.{Reaches, RefusesFile, WritesNothing, IsVerdict};
+
+use crate::answer::decide;
+use crate::status::Status;
+use crate::words::settings;
+use gadget_tree::read_gadget;
+use mask_bytes::{Sink, Source, read_whole, write_whole};
+use std::alloc::Global;
+
+/// How many bytes a gadget file may have.
+pub const FILE_LIMIT: usize = 1_048_576;
+
+/// Checks the gadget file that `source` gives, as the words of the command line ask, and writes the report to `sink`.
+pub fn check<S: Source, K: Sink>(
+    alloc: Global,
+    words: &[String],
+    source: &mut S,
+    sink: &mut K,
+) -> Status
+    // A completed check: the words ask for it, all that was left is a gadget file, and the report of that gadget was written.
+    ensures yes { result ≡ Status.Yes → (text : List ℕ) × Reaches (map string_bytes words.now) (S.left source.old) (S.left source.new) true text × (K.written sink.new ≡ append_known (K.written sink.old) text) }
+    ensures no { result ≡ Status.No → (text : List ℕ) × Reaches (map string_bytes words.now) (S.left source.old) (S.left source.new) false text × (K.written sink.new ≡ append_known (K.written sink.old) text) }
+
+    // When each refusal comes.
+    ensures usage { (kind : _) → (result ≡ Status.Usage kind) ↔ (words_ask (map string_bytes words.now) ≡ Err kind) }
+    ensures read_fault { result ≡ Status.ReadFault → Rose (S.faults source.old) (S.faults source.new) }
+    ensures too_long { result ≡ Status.TooLong → IsLonger (S.left source.old) 1048576 }
+    ensures one_more { result ≡ Status.TooLong → LosesCount (S.left source.old) (S.left source.new) 1048577 }
+    ensures file { (error : _) → result ≡ Status.File error → RefusesFile (S.left source.old) (S.left source.new) error }
+    ensures write_fault { result ≡ Status.WriteFault → Rose (K.faults sink.old) (K.faults sink.new) }
+
+    // What a refusal leaves.
+    ensures nothing_read { (kind : _) → result ≡ Status.Usage kind → source.new ≡ source.old }
+    ensures nothing_written { WritesNothing result → sink.new ≡ sink.old }
+    ensures prefix { result ≡ Status.WriteFault → (secure : Bool) × (text : List ℕ) × Reaches (map string_bytes words.now) (S.left source.old) (S.left source.new) secure text × AppendsProperPrefix (K.written sink.old) (K.written sink.new) text }
+
+    // A valid check completes, unless reading, writing or memory fails.
+    ensures complete { (t : ℕ) (bytes : List ℕ) (g : Circuit) → words_ask (map string_bytes words.now) ≡ Ok t → S.left source.old ≡ Some bytes → length bytes ≤ 1048576 → FileSays bytes (Ok g) →
+        (Rose (S.faults source.old) (S.faults source.new) → ⊥) → (Rose (K.faults sink.old) (K.faults sink.new) → ⊥) → IsVerdict result }
+{
+    match verdict(alloc, words, source, sink) {
+        Ok(true) => Status::Yes,
+        Ok(false) => Status::No,
+        Err(refusal) => refusal,
+    }
+}
+
+// The verdict once the report is written, or the refusal.
+fn verdict<S: Source, K: Sink>(
+    alloc: Global,
+    words: &[String],
+    source: &mut S,
+    sink: &mut K,
+) -> Result<bool, Status>
+    ensures ok { IfOk result (λ secure. (text : List ℕ) × Reaches (map string_bytes words.now) (S.left source.old) (S.left source.new) secure text × (K.written sink.new ≡ append_known (K.written sink.old) text)) }
+    ensures err { IfErr result (Refuses (map string_bytes words.now) (record {
+      left = S.left;
+      read_faults = S.faults;
+      written = K.written;
+      write_faults = K.faults;
+      source = source.old;
+      source_after = source.new;
+      sink = sink.old;
+      sink_after = sink.new;
+    })) }
+{
+    let t = settings(words)?;
+    let bytes = read_whole(alloc, source, FILE_LIMIT)?;
+    let gadget = read_gadget(alloc, &bytes)?;
+    let answer = decide(alloc, &gadget, t)?;
+    write_whole(sink, &answer.report)?;
+    Ok(answer.secure)
+}
