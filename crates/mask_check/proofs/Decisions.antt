@@ -1,12 +1,12 @@
 -- From the answer of a query to the verdict and the report.
-use Rattle.std.proofs.Common.{◌≡◌, ℕ, suc, ◌<◌, ◌≤◌, ◌^◌, ◌⊎◌, Bool, true, false, List, [], ◌∷◌, length, get_or, ap, sym, ◌∙◌, refl, inl, inr, arith, subst, ◌↔◌, eqb}
+use Rattle.std.proofs.Common.{◌≡◌, ℕ, ◌<◌, ◌⊎◌, Bool, List, [], ◌∷◌, length, get_or, ap, sym, ◌∙◌, refl, inl, inr, arith, subst, ◌↔◌, eqb}
 use Rattle.std.specs.Prelude.{IsTrue, All, Contains}
 use Rattle.std.proofs.lemmas.Bool.{eqb-true}
 use Rattle.std.proofs.lemmas.List.Elements.{Contains-get_or}
 use Rattle.list_laws.proofs.Members.{Contains-cons_head}
 use Rattle.gadget_model.specs.Circuit.{Circuit}
 use Rattle.tuple_model.specs.Tuples.{IsTuple, tuples, subset}
-use Rattle.tuple_model.specs.Minimal.{IsMinimal, IsAnswer}
+use Rattle.tuple_model.specs.Minimal.{IsAnswer}
 use Rattle.tuple_model.proofs.Answers.{answered, minimal-from_answer}
 use Rattle.tuple_model.proofs.Rising.{IsRising-member}
 use Rattle.notions.specs.Ni.{Query, Fails}

@@ -1,6 +1,7 @@
 -- What a check says of a gadget file.
-use Rattle.std.specs.Prelude.{◌≡◌, ◌↔◌, ℕ, Bool, true, List, [], length, Option, IfSome, IsTrue, Ok, Err}
-use Rattle.std.specs.Io.KnownBytes.{IsAtEnd}
+use Rattle.std.specs.Prelude.{◌≡◌, ◌↔◌, ℕ, Bool, List, [], length, Option, IfSome, IsTrue, Ok, Err}
+use Rattle.std.specs.Io.KnownBytes.{IsAtEnd, append_known}
+use Rattle.mask_bytes.specs.Flow.{AppendsProperPrefix}
 use Rattle.gadget_model.specs.Circuit.{Circuit}
 use Rattle.tuple_model.specs.Tuples.{IsTuple, tuples}
 use Rattle.tuple_model.specs.Minimal.{IsAnswer}
@@ -31,6 +32,16 @@ pub record Reaches (words : List (List ℕ)) (left left_after : Option (List ℕ
   pub file : IfSome left (λ bytes. FileSays bytes (Ok gadget))
   pub answers : Answers gadget t secure text
 
+-- A completed check: it reached this verdict with a text, and the text stands behind what was written before.
+abbrev pub Completes : List (List ℕ) → Option (List ℕ) → Option (List ℕ) → Option (List ℕ) → Option (List ℕ) → Bool → Type 0
+Completes words left left_after written written_after secure =
+    (text : List ℕ) × Reaches words left left_after secure text × (written_after ≡ append_known written text)
+
+-- A check that broke off while it wrote: a front of its text, and not all of it, stands behind what was written before.
+abbrev pub BreaksOff : List (List ℕ) → Option (List ℕ) → Option (List ℕ) → Option (List ℕ) → Option (List ℕ) → Type 0
+BreaksOff words left left_after written written_after =
+    (secure : Bool) × (text : List ℕ) × Reaches words left left_after secure text × AppendsProperPrefix written written_after text
+
 -- A file is refused: all that was left of the source was read, and the line is the first that isn't allowed at its place.
 -- Want of memory is no refusal of a file.
 abbrev pub RefusesFile : Option (List ℕ) → Option (List ℕ) → FileError → Type 0
@@ -48,13 +59,13 @@ WritesNothing statuses.ReadFault = Unit {0}
 WritesNothing statuses.WriteFault = ⊥
 WritesNothing statuses.OutOfMemory = Unit {0}
 
--- a verdict, or want of memory
-abbrev pub IsVerdict : Status → Type 0
-IsVerdict statuses.Yes = Unit {0}
-IsVerdict statuses.No = Unit {0}
-IsVerdict (statuses.Usage kind) = ⊥
-IsVerdict (statuses.File error) = ⊥
-IsVerdict statuses.TooLong = ⊥
-IsVerdict statuses.ReadFault = ⊥
-IsVerdict statuses.WriteFault = ⊥
-IsVerdict statuses.OutOfMemory = Unit {0}
+-- a verdict, unless memory ran out
+abbrev pub IsVerdictIfMemoryLasts : Status → Type 0
+IsVerdictIfMemoryLasts statuses.Yes = Unit {0}
+IsVerdictIfMemoryLasts statuses.No = Unit {0}
+IsVerdictIfMemoryLasts (statuses.Usage kind) = ⊥
+IsVerdictIfMemoryLasts (statuses.File error) = ⊥
+IsVerdictIfMemoryLasts statuses.TooLong = ⊥
+IsVerdictIfMemoryLasts statuses.ReadFault = ⊥
+IsVerdictIfMemoryLasts statuses.WriteFault = ⊥
+IsVerdictIfMemoryLasts statuses.OutOfMemory = Unit {0}

@@ -1,12 +1,11 @@
 -- What is known of a check that ends with a refusal.
-use Rattle.std.specs.Prelude.{◌≡◌, ℕ, Bool, List, Option, Ok, Err}
+use Rattle.std.specs.Prelude.{◌≡◌, ℕ, List, Option, Ok, Err}
 use Rattle.mask_bytes.specs.Counts.{Rose}
-use Rattle.mask_bytes.specs.Flow.{IsLonger, LosesCount, AppendsProperPrefix}
-use Rattle.gadget_tree.specs.declared.file_error.FileError.{FileError}
+use Rattle.mask_bytes.specs.Flow.{IsLonger, LosesCount}
 use Rattle.mask_check.specs.declared.status.Status.{Status}
 use Rattle.mask_check.specs.declared.status.Status.TheVariants as statuses
 use Rattle.mask_check.specs.Words.{words_ask}
-use Rattle.mask_check.specs.Check.{Reaches, RefusesFile}
+use Rattle.mask_check.specs.Check.{BreaksOff, RefusesFile}
 
 -- the words ask for some check
 abbrev pub IsAsked : List (List ℕ) → Type 0
@@ -33,6 +32,5 @@ Refuses words run statuses.TooLong = IsAsked words × (run.sink_after ≡ run.si
 Refuses words run statuses.ReadFault = IsAsked words × (run.sink_after ≡ run.sink) × Rose (run.read_faults run.source) (run.read_faults run.source_after)
 Refuses words run statuses.WriteFault =
     Rose (run.write_faults run.sink) (run.write_faults run.sink_after)
-    × ((secure : Bool) × (text : List ℕ) × Reaches words (run.left run.source) (run.left run.source_after) secure text
-    × AppendsProperPrefix (run.written run.sink) (run.written run.sink_after) text)
+    × BreaksOff words (run.left run.source) (run.left run.source_after) (run.written run.sink) (run.written run.sink_after)
 Refuses words run statuses.OutOfMemory = IsAsked words × (run.sink_after ≡ run.sink)

@@ -1,14 +1,13 @@
 //! The top call.
 
-ghost use Rattle.std.specs.Prelude.{◌≡◌, ◌≢◌, ◌↔◌, ℕ, ◌≤◌, Bool, true, false, List, Some, Ok, Err, IfOk, IfErr, length, map, string_bytes};
-ghost use Rattle.std.specs.Io.KnownBytes.{append_known};
+ghost use Rattle.std.specs.Prelude.{◌≡◌, ◌↔◌, ℕ, ◌≤◌, true, false, List, Some, Ok, Err, IfOk, IfErr, length, map, string_bytes};
 ghost use Rattle.mask_bytes.specs.Counts.{Rose};
-ghost use Rattle.mask_bytes.specs.Flow.{IsLonger, LosesCount, AppendsProperPrefix};
+ghost use Rattle.mask_bytes.specs.Flow.{IsLonger, LosesCount};
 ghost use Rattle.gadget_model.specs.Circuit.{Circuit};
 ghost use Rattle.gadget_tree.specs.LinearForm.{FileSays};
 ghost use Rattle.mask_check.specs.Words.{words_ask};
 ghost use Rattle.mask_check.specs.Refusals.{Refuses};
-ghost use Rattle.mask_check.specs.Check.{Reaches, RefusesFile, WritesNothing, IsVerdict};
+ghost use Rattle.mask_check.specs.Check.{Completes, BreaksOff, RefusesFile, WritesNothing, IsVerdictIfMemoryLasts};
 
 use crate::answer::decide;
 use crate::status::Status;
@@ -27,9 +26,10 @@ pub fn check<S: Source, K: Sink>(
     source: &mut S,
     sink: &mut K,
 ) -> Status
-    // A completed check: the words ask for it, all that was left is a gadget file, and the report of that gadget was written.
-    ensures yes { result ≡ Status.Yes → (text : List ℕ) × Reaches (map string_bytes words.now) (S.left source.old) (S.left source.new) true text × (K.written sink.new ≡ append_known (K.written sink.old) text) }
-    ensures no { result ≡ Status.No → (text : List ℕ) × Reaches (map string_bytes words.now) (S.left source.old) (S.left source.new) false text × (K.written sink.new ≡ append_known (K.written sink.old) text) }
+    // A completed check: the words ask for it, all that was left is a gadget file, its minimal failing sets are
+    // those of the report that was written, and the verdict is that there are none, or some.
+    ensures yes { result ≡ Status.Yes → Completes (map string_bytes words.now) (S.left source.old) (S.left source.new) (K.written sink.old) (K.written sink.new) true }
+    ensures no { result ≡ Status.No → Completes (map string_bytes words.now) (S.left source.old) (S.left source.new) (K.written sink.old) (K.written sink.new) false }
 
     // When each refusal comes.
     ensures usage { (kind : _) → (result ≡ Status.Usage kind) ↔ (words_ask (map string_bytes words.now) ≡ Err kind) }
@@ -42,11 +42,12 @@ pub fn check<S: Source, K: Sink>(
     // What a refusal leaves.
     ensures nothing_read { (kind : _) → result ≡ Status.Usage kind → source.new ≡ source.old }
     ensures nothing_written { WritesNothing result → sink.new ≡ sink.old }
-    ensures prefix { result ≡ Status.WriteFault → (secure : Bool) × (text : List ℕ) × Reaches (map string_bytes words.now) (S.left source.old) (S.left source.new) secure text × AppendsProperPrefix (K.written sink.old) (K.written sink.new) text }
+    ensures prefix { result ≡ Status.WriteFault → BreaksOff (map string_bytes words.now) (S.left source.old) (S.left source.new) (K.written sink.old) (K.written sink.new) }
 
     // A valid check completes, unless reading, writing or memory fails.
-    ensures complete { (t : ℕ) (bytes : List ℕ) (g : Circuit) → words_ask (map string_bytes words.now) ≡ Ok t → S.left source.old ≡ Some bytes → length bytes ≤ 1048576 → FileSays bytes (Ok g) →
-        (Rose (S.faults source.old) (S.faults source.new) → ⊥) → (Rose (K.faults sink.old) (K.faults sink.new) → ⊥) → IsVerdict result }
+    ensures complete { (t : ℕ) (bytes : List ℕ) (g : Circuit) →
+        words_ask (map string_bytes words.now) ≡ Ok t → S.left source.old ≡ Some bytes → length bytes ≤ 1048576 → FileSays bytes (Ok g) →
+        (Rose (S.faults source.old) (S.faults source.new) → ⊥) → (Rose (K.faults sink.old) (K.faults sink.new) → ⊥) → IsVerdictIfMemoryLasts result }
 {
     match verdict(alloc, words, source, sink) {
         Ok(true) => Status::Yes,
@@ -62,7 +63,7 @@ fn verdict<S: Source, K: Sink>(
     source: &mut S,
     sink: &mut K,
 ) -> Result<bool, Status>
-    ensures ok { IfOk result (λ secure. (text : List ℕ) × Reaches (map string_bytes words.now) (S.left source.old) (S.left source.new) secure text × (K.written sink.new ≡ append_known (K.written sink.old) text)) }
+    ensures ok { IfOk result (Completes (map string_bytes words.now) (S.left source.old) (S.left source.new) (K.written sink.old) (K.written sink.new)) }
     ensures err { IfErr result (Refuses (map string_bytes words.now) (record {
       left = S.left;
       read_faults = S.faults;

@@ -3,7 +3,6 @@ use Rattle.std.specs.Prelude.{◌<◌, All}
 use Rattle.std.proofs.lemmas.List.{length-map}
 use Rattle.gadget_model.specs.Circuit.{Variable}
 use Rattle.gadget_tree.specs.Seen.{variable_of}
-use Rattle.mask_check.specs.Queries.{failing}
 use Rattle.mask_check.specs.Report.{report}
 use Rattle.mask_check.proofs.Decisions.{items_below, Answers-from, empty-from_count}
 use Rattle.mask_check.proofs.answer.decide.Goals as goal

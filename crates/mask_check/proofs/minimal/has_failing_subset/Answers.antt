@@ -1,4 +1,4 @@
-use Rattle.std.proofs.Common.{◌≡◌, ℕ, List, length, sym, ◌∙◌, subst}
+use Rattle.std.proofs.Common.{length, sym, ◌∙◌, subst}
 use Rattle.tuple_model.specs.Tuples.{IsRising}
 use Rattle.tuple_model.proofs.Subsets.{IsRising-subset}
 use Rattle.mask_check.proofs.minimal.has_failing_subset.Goals as goal

@@ -1,7 +1,7 @@
-use Rattle.std.proofs.Common.{◌≡◌, ◌<◌, ◌≤◌, ◌+◌, ℕ, List, [], ◌∷◌, ◌++◌, length, ap, sym, ◌∙◌, subst, arith}
+use Rattle.std.proofs.Common.{◌<◌, ◌+◌, ℕ, List, [], length, ap, sym, ◌∙◌, subst, arith}
 use Rattle.std.specs.declared.vec.Vec.{Vec}
 use Rattle.std.specs.declared.alloc.Global.{Global}
-use Rattle.tuple_model.specs.Tuples.{IsTuple, tuples}
+use Rattle.tuple_model.specs.Tuples.{tuples}
 use Rattle.mask_check.specs.Queries.{failing}
 use Rattle.mask_check.proofs.Walks.{IsAt, IsAt-start, IsAt-kept, IsAt-skipped, goes-from_step, answer-from_end, settled-from_end}
 use Rattle.mask_check.proofs.minimal.minimal_failing.Goals as goal

@@ -1,10 +1,10 @@
-use Rattle.std.proofs.Common.{◌≡◌, ℕ, List, map, string_bytes, MutBor}
-use Rattle.mask_check.proofs.Completions.{IsVerdict-from_refusal}
+use Rattle.std.proofs.Common.{map, string_bytes}
+use Rattle.mask_check.proofs.Completions.{IsVerdictIfMemoryLasts-from_refusal}
 use Rattle.mask_check.proofs.run.check.Goals as goal
 
 pub returns-in-Err-clause-complete : goal.returns-in-Err-clause-complete
 returns-in-Err-clause-complete g c = λ t bytes gadget asked told few valid reads writes.
-    IsVerdict-from_refusal (map string_bytes c.args.words.now)
+    IsVerdictIfMemoryLasts-from_refusal (map string_bytes c.args.words.now)
     (record {
       left = g.S.Source.left;
       read_faults = g.S.Source.faults;
