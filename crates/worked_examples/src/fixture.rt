@@ -14,7 +14,7 @@ pub const SUM_REPORT: &str =
     "check ni 1\ngadget shares 2 inputs 1 outputs 1 randoms 0 variables 4\nspace items 4 size 1 tuples 5\nfail 1 d0\nverdict no\n";
 
 /// How a check ended, and what it wrote.
-#[derive(Debug, PartialEq, Drop)]
+#[derive(Drop)]
 pub struct Outcome {
     pub status: Status,
     pub text: String,
