@@ -1,0 +1,61 @@
+//! The gadget file and the report that most examples share, and how they are checked.
+ghost use Rattle.std.specs.Prelude.{◌≤◌};
+
+use mask_bytes::{MemSink, MemSource, Source};
+use mask_check::{Status, check};
+use std::alloc::Global;
+use std::test::Fail;
+
+/// A gadget file of 44 bytes, whose first output share is the sum of both input shares.
+pub const SUM: &str = "#SHARES 2\n#IN a\n#OUT d\nd0 = a0 + a1\nd1 = a1\n";
+
+/// The report of `SUM` at order 1. The sum alone tells both shares, and one probe may tell one.
+pub const SUM_REPORT: &str =
+    "check ni 1\ngadget shares 2 inputs 1 outputs 1 randoms 0 variables 4\nspace items 4 size 1 tuples 5\nfail 1 d0\nverdict no\n";
+
+/// How a check ended, and what it wrote.
+#[derive(Drop)]
+pub struct Outcome {
+    pub status: Status,
+    pub text: String,
+}
+
+/// The words of a command line.
+pub fn owned(alloc: Global, words: &[&str]) -> Result<Vec<String>, Fail> {
+    let mut owned = Vec::new(alloc);
+    for word in words {
+        owned.push(String::from_str(alloc, word)?)?;
+    }
+    Ok(owned)
+}
+
+/// A source that gives `most` bytes of a file in a call, and fails at the calls of these numbers.
+pub fn source_of(alloc: Global, file: &str, most: usize, fails: &[u32]) -> Result<MemSource, Fail>
+    requires { 1 ≤ most }
+{
+    let bytes = file.as_bytes().to_vec(alloc)?;
+    Ok(MemSource::make(bytes, most, fails.to_vec(alloc)?))
+}
+
+/// Checks what `source` gives at an order, into a sink.
+pub fn check_into<S: Source>(
+    alloc: Global,
+    order: &str,
+    source: &mut S,
+    mut sink: MemSink,
+) -> Result<Outcome, Fail> {
+    let words = owned(alloc, &["mask", "ni", order])?;
+    let status = check(alloc, &words, source, &mut sink);
+    let text = String::from_utf8(sink.bytes().to_vec(alloc)?)?;
+    Ok(Outcome { status, text })
+}
+
+/// Checks what `source` gives at an order, into a sink that takes all at once.
+pub fn check_source<S: Source>(
+    alloc: Global,
+    order: &str,
+    source: &mut S,
+) -> Result<Outcome, Fail> {
+    let sink = MemSink::make(alloc, 1000, 1000, Vec::new(alloc))?;
+    check_into(alloc, order, source, sink)
+}

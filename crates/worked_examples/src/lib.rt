@@ -1,0 +1,17 @@
+//! Worked examples of whole checks: files, faults and limits, and what each check answers and writes.
+#![tactic(auto)]
+
+#[cfg(test)]
+mod fixture;
+#[cfg(test)]
+mod limit;
+#[cfg(test)]
+mod read_faults;
+#[cfg(test)]
+mod refusals;
+#[cfg(test)]
+mod standard;
+#[cfg(test)]
+mod verdicts;
+#[cfg(test)]
+mod write_faults;

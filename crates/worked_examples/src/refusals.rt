@@ -1,0 +1,53 @@
+//! Files and words that are refused, and what is left where they are.
+
+use crate::fixture::{SUM, check_source, owned};
+use gadget_tree::FileError;
+use mask_bytes::{MemSink, SureSource, read_whole};
+use mask_check::{Status, UsageKind, check};
+use std::test::Fail;
+
+// Files, and the line at which each is refused.
+const REFUSED_FILES: [(&str, u32); 4] = [
+    (
+        "#SHARES 2\n#IN a\n#RANDOMS r0\n#OUT d\nd0 = a0 + r0\nd1 = a1 + r0\n",
+        3,
+    ),
+    ("", 1),
+    ("#SHARES 2\n#IN a\n#OUT d\n", 4),
+    ("#SHARES 2\n#IN a\n#OUT d\nd0 = a0 * a1\nd1 = a1\n", 4),
+];
+
+// Words, and what is amiss with them.
+const REFUSED_WORDS: [(&[&str], UsageKind); 3] = [
+    (&["mask", "ni", "3"], UsageKind::Argument),
+    (&["mask", "xni", "1"], UsageKind::Task),
+    (&["mask", "ni"], UsageKind::Words),
+];
+
+#[test]
+fn refused_files_write_nothing(rt: HostRuntime) -> Result<(), Fail> {
+    let alloc = rt.alloc();
+    for (file, line) in REFUSED_FILES {
+        let mut source = SureSource::make(file.as_bytes().to_vec(alloc)?);
+        let outcome = check_source(alloc, "1", &mut source)?;
+        let refused = Status::File(FileError::NotYet(line));
+        assert_eq!(rt; outcome.status, refused, "{file}");
+        assert_eq!(rt; outcome.text.as_str(), "");
+    }
+    Ok(())
+}
+
+#[test]
+fn refused_words_read_and_write_nothing(rt: HostRuntime) -> Result<(), Fail> {
+    let alloc = rt.alloc();
+    for (words, kind) in REFUSED_WORDS {
+        let mut source = SureSource::make(SUM.as_bytes().to_vec(alloc)?);
+        let mut sink = MemSink::make(alloc, 1000, 1000, Vec::new(alloc))?;
+        let status = check(alloc, &owned(alloc, words)?, &mut source, &mut sink);
+        assert_eq!(rt; status, Status::Usage(kind), "at {words:?}");
+        assert!(rt; sink.bytes().is_empty());
+        let left = read_whole(alloc, &mut source, 1000)?;
+        assert_eq!(rt; left.as_slice(), SUM.as_bytes());
+    }
+    Ok(())
+}
