@@ -10,6 +10,6 @@ pub mod status;
 pub mod words;
 
 pub use line::Line;
-pub use run::check;
+pub use run::{check, no_fault_law};
 pub use status::{Status, UsageKind, exit_status, status_text};
 pub use words::settings;
