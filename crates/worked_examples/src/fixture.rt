@@ -9,7 +9,7 @@ use std::test::Fail;
 /// A gadget file of 44 bytes, whose first output share is the sum of both input shares.
 pub const SUM: &str = "#SHARES 2\n#IN a\n#OUT d\nd0 = a0 + a1\nd1 = a1\n";
 
-/// The report of `SUM` at order 1. The sum alone tells both shares, and one probe may tell one.
+/// The report of `SUM` at order 1. The sum alone depends on both shares, and one probe may depend on one.
 pub const SUM_REPORT: &str =
     "check ni 1\ngadget shares 2 inputs 1 outputs 1 randoms 0 variables 4\nspace items 4 size 1 tuples 5\nfail 1 d0\nverdict no\n";
 

@@ -1,5 +1,4 @@
 //! The longest file that is read, and one that is longer by a byte.
-ghost use Rattle.std.specs.Prelude.{◌≤◌};
 
 use crate::fixture::check_source;
 use mask_bytes::SureSource;
