@@ -29,8 +29,8 @@ module _ {S K : Type 0} (words : List (List ℕ)) (run : Run S K) (t : ℕ) (byt
   IsVerdictIfMemoryLasts-from_refusal statuses.No h = absurd h
   IsVerdictIfMemoryLasts-from_refusal (statuses.Usage kind) h = absurd (ok_err t kind (words_ask words) asked h.0)
   IsVerdictIfMemoryLasts-from_refusal (statuses.File (errors.NotYet line)) h =
-      let P : Option (List ℕ) → Type 0 = λ o. IfSome o (λ bs. FileSays bs (Err line)) in
-      absurd (ok_err g line (Ok g) refl (one_reading bytes (Ok g) (Err line) valid (subst P told h.2.1)))
+      let P : Option (List ℕ) → Type 0 = λ o. IfSome o (λ bs. (length bs ≤ 1048576) × FileSays bs (Err line)) in
+      absurd (ok_err g line (Ok g) refl (one_reading bytes (Ok g) (Err line) valid ((subst P told h.2.1).1)))
   IsVerdictIfMemoryLasts-from_refusal (statuses.File errors.OutOfMemory) h = absurd h.2
   IsVerdictIfMemoryLasts-from_refusal statuses.TooLong h =
       let P : Option (List ℕ) → Type 0 = λ o. IsLonger o 1048576 in

@@ -1,5 +1,5 @@
 -- What a check says of a gadget file.
-use Rattle.std.specs.Prelude.{◌≡◌, ◌↔◌, ℕ, Bool, List, [], length, Option, IfSome, IsTrue, Ok, Err}
+use Rattle.std.specs.Prelude.{◌≡◌, ◌↔◌, ◌≤◌, ℕ, Bool, List, [], length, Option, IfSome, IsTrue, Ok, Err}
 use Rattle.std.specs.Io.KnownBytes.{IsAtEnd, append_known}
 use Rattle.mask_bytes.specs.Flow.{AppendsProperPrefix}
 use Rattle.gadget_model.specs.Circuit.{Circuit}
@@ -23,11 +23,13 @@ pub record Answers (g : Circuit) (t : ℕ) (secure : Bool) (text : List ℕ) : T
   pub none_fails : IsTrue secure ↔ ((probes : List ℕ) → IsTuple (length g.variables) t probes → Fails g t probes → ⊥)
 
 -- A check got as far as this verdict and this text: the words ask for ni t, all that was left of the source was read, where
--- the source tells its bytes they are the file of a gadget, and the verdict and the text are those of this gadget.
+-- the source tells its bytes they are at most 1,048,576 and the file of a gadget, and the verdict and the text are those of
+-- this gadget.
 pub record Reaches (words : List (List ℕ)) (left left_after : Option (List ℕ)) (secure : Bool) (text : List ℕ) : Type 0 where
   pub t : ℕ
   pub asked : words_ask words ≡ Ok t
   pub end : IsAtEnd left_after
+  pub short : IfSome left (λ bytes. length bytes ≤ 1048576)
   pub gadget : Circuit
   pub file : IfSome left (λ bytes. FileSays bytes (Ok gadget))
   pub answers : Answers gadget t secure text
@@ -42,10 +44,11 @@ abbrev pub BreaksOff : List (List ℕ) → Option (List ℕ) → Option (List �
 BreaksOff words left left_after written written_after =
     (secure : Bool) × (text : List ℕ) × Reaches words left left_after secure text × AppendsProperPrefix written written_after text
 
--- A file is refused: all that was left of the source was read, and the line is the first that isn't allowed at its place.
+-- A file is refused: all that was left of the source was read, at most 1,048,576 bytes, and the line is the first that isn't
+-- allowed at its place.
 -- Want of memory is no refusal of a file.
 abbrev pub RefusesFile : Option (List ℕ) → Option (List ℕ) → FileError → Type 0
-RefusesFile left left_after (errors.NotYet line) = IsAtEnd left_after × IfSome left (λ bytes. FileSays bytes (Err line))
+RefusesFile left left_after (errors.NotYet line) = IsAtEnd left_after × IfSome left (λ bytes. (length bytes ≤ 1048576) × FileSays bytes (Err line))
 RefusesFile left left_after errors.OutOfMemory = ⊥
 
 -- the answers after which nothing was written

@@ -1,7 +1,7 @@
 -- What is known of a check that ends with a refusal.
 use Rattle.std.specs.Prelude.{◌≡◌, ℕ, List, Option, Ok, Err}
 use Rattle.mask_bytes.specs.Counts.{Rose}
-use Rattle.mask_bytes.specs.Flow.{IsLonger, LosesCount}
+use Rattle.mask_bytes.specs.Flow.{IsLonger, LosesCount, LosesAtMost}
 use Rattle.mask_check.specs.declared.status.Status.{Status}
 use Rattle.mask_check.specs.declared.status.Status.TheVariants as statuses
 use Rattle.mask_check.specs.Words.{words_ask}
@@ -30,6 +30,7 @@ Refuses words run (statuses.Usage kind) = (words_ask words ≡ Err kind) × (run
 Refuses words run (statuses.File error) = IsAsked words × (run.sink_after ≡ run.sink) × RefusesFile (run.left run.source) (run.left run.source_after) error
 Refuses words run statuses.TooLong = IsAsked words × (run.sink_after ≡ run.sink) × IsLonger (run.left run.source) 1048576 × LosesCount (run.left run.source) (run.left run.source_after) 1048577
 Refuses words run statuses.ReadFault = IsAsked words × (run.sink_after ≡ run.sink) × Rose (run.read_faults run.source) (run.read_faults run.source_after)
+    × LosesAtMost (run.left run.source) (run.left run.source_after) 1048576
 Refuses words run statuses.WriteFault =
     Rose (run.write_faults run.sink) (run.write_faults run.sink_after)
     × BreaksOff words (run.left run.source) (run.left run.source_after) (run.written run.sink) (run.written run.sink_after)

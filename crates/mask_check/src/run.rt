@@ -2,7 +2,7 @@
 
 ghost use Rattle.std.specs.Prelude.{◌≡◌, ◌↔◌, ℕ, ◌≤◌, true, false, List, Some, Ok, Err, IfOk, IfErr, length, map, string_bytes};
 ghost use Rattle.mask_bytes.specs.Counts.{Rose};
-ghost use Rattle.mask_bytes.specs.Flow.{IsLonger, LosesCount};
+ghost use Rattle.mask_bytes.specs.Flow.{IsLonger, LosesCount, LosesAtMost};
 ghost use Rattle.gadget_model.specs.Circuit.{Circuit};
 ghost use Rattle.gadget_tree.specs.LinearForm.{FileSays};
 ghost use Rattle.mask_check.specs.Words.{words_ask};
@@ -34,6 +34,7 @@ pub fn check<S: Source, K: Sink>(
     // When each refusal comes.
     ensures usage { (kind : _) → (result ≡ Status.Usage kind) ↔ (words_ask (map string_bytes words.now) ≡ Err kind) }
     ensures read_fault { result ≡ Status.ReadFault → Rose (S.faults source.old) (S.faults source.new) }
+    ensures within { result ≡ Status.ReadFault → LosesAtMost (S.left source.old) (S.left source.new) 1048576 }
     ensures too_long { result ≡ Status.TooLong → IsLonger (S.left source.old) 1048576 }
     ensures one_more { result ≡ Status.TooLong → LosesCount (S.left source.old) (S.left source.new) 1048577 }
     ensures file { (error : _) → result ≡ Status.File error → RefusesFile (S.left source.old) (S.left source.new) error }

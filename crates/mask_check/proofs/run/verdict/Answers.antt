@@ -10,7 +10,7 @@ returns-in_err-write_whole-clause-err g c =
       (
         c.in_ok-answer.answer.secure,
         c.deref-2.result.now,
-        record { t = c.in_ok-t.t; asked = search rules; end = c.in_ok-bytes.ensures.end; gadget = c.in_ok-gadget.gadget; file = search rules; answers = search rules },
+        record { t = c.in_ok-t.t; asked = search rules; end = c.in_ok-bytes.ensures.end; short = search rules; gadget = c.in_ok-gadget.gadget; file = search rules; answers = search rules },
         c.in_err-write_whole.ensures.prefix,
       ),
     )
