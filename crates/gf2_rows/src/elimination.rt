@@ -34,10 +34,10 @@ fn eliminate(rows: &[u128], echelon: &mut PivotList, found: &mut MaskList)
 {
     echelon.clear();
     found.clear();
-    for i in 0..rows.len() {
+    for (i, &total) in rows.iter().enumerate() {
         let given = Combination {
             mask: 1 << i,
-            total: rows[i],
+            total,
         };
         let row = reduced(echelon.pivots(), given);
         if row.total == 0 {
