@@ -1,2 +1,3 @@
 pub mod SetSums
 pub mod Rows
+pub mod GadgetRows

@@ -7,6 +7,9 @@ ghost use Rattle.gadget_model.specs.Simulation.{IsSimulatable, IsWithin};
 ghost use Rattle.gf2_rows.specs.Combinations.{masked_sum};
 ghost use Rattle.needed.specs.Rows.{StandFor, randoms_of, shares_of, union_of_masks};
 
+mod gadget_rows;
+
+pub use gadget_rows::linear_rows;
 use gf2_rows::{Kernel, kernel};
 
 /// A sum of randoms and input shares of a gadget. Bit k of `randoms` stands for random k, and bit

@@ -1,3 +1,2 @@
 pub mod Ni
-pub mod Rows
 pub mod Inside

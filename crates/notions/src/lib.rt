@@ -2,6 +2,5 @@
 #![tactic(auto)]
 
 mod ni;
-mod rows;
 
 pub use ni::NiCheck;

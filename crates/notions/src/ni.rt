@@ -1,13 +1,15 @@
 //! Non-interference.
 
-ghost use Rattle.std.specs.Prelude.{◌≡◌, ◌≤◌, ◌<◌, ◌↔◌, ℕ, All, IfOk, IsTrue, false, length};
+ghost use Rattle.std.specs.Prelude.{◌≡◌, ◌≤◌, ◌<◌, ◌↔◌, ℕ, All, IfOk, IsTrue, false, length, map, take};
 ghost use Rattle.tuple_model.specs.Tuples.{IsRising};
 ghost use Rattle.notions.specs.Ni.{Fails, Passes, shares_of};
-ghost use Rattle.notions.specs.Rows.{union_of};
+ghost use Rattle.gadget_model.specs.Circuit.{Circuit};
+ghost use Rattle.gadget_model.specs.Simulation.{IsSimulatable, IsWithin};
+ghost use Rattle.needed.specs.GadgetRows.{AreRows, row_at};
 
-use crate::rows::rows;
 use gadget_tree::Gadget;
 use mask_bytes::OutOfMemory;
+use needed::{LinearRow, linear_rows, needed};
 use std::alloc::Global;
 use std::marker::Model;
 
@@ -16,7 +18,7 @@ use std::marker::Model;
 #[derive(Drop)]
 pub struct NiCheck<'g> {
     gadget: &'g Gadget,
-    rows: Vec<u64>,
+    rows: Vec<LinearRow>,
     inputs: u8,
     t: u8,
 }
@@ -40,7 +42,7 @@ impl<'g> NiCheck<'g> {
         ensures gadget { IfOk result (λ check. check.gadget ≡ gadget.now) }
         ensures order { IfOk result (λ check. check.t ≡ t) }
     {
-        let rows = rows(alloc, gadget)?;
+        let rows = linear_rows(alloc, gadget)?;
         let inputs = gadget.inputs().len() as u8;
         Ok(NiCheck {
             gadget,
@@ -57,17 +59,33 @@ impl<'g> NiCheck<'g> {
         ensures passes { result ≡ false → Passes self.now.gadget self.now.t vars.now }
     {
         vars.len() <= usize::from(self.t)
-            && !is_granted(needed(&self.rows, vars), self.inputs, self.t)
+            && !is_granted(needed_for(&self.rows, vars), self.inputs, self.t)
     }
 }
 
 // The least set of input shares from which the variables can be simulated.
-fn needed(rows: &[u64], vars: &[u16]) -> u64
-    requires { All (λ v. v < length rows.now) vars.now }
-    ensures { result ≡ union_of rows.now vars.now }
+fn needed_for(rows: &[LinearRow], vars: &[u16]) -> u64
+    requires few { length vars.now ≤ 6 }
+    requires there { All (λ v. v < length rows.now) vars.now }
+    ensures { (g : Circuit) (set : ℕ) → AreRows g rows.now → IsSimulatable g vars.now set ↔ IsWithin result set }
 {
-    vars.iter()
-        .fold(0, |needed, var| needed | rows[usize::from(*var)])
+    let mut probes = [LinearRow {
+        randoms: 0,
+        shares: 0,
+    }; 6];
+    copy_rows(rows, vars, &mut probes);
+    needed(&probes[..vars.len()])
+}
+
+// Writes the row of each variable to its place.
+fn copy_rows(rows: &[LinearRow], vars: &[u16], out: &mut [LinearRow; 6])
+    requires few { length vars.now ≤ 6 }
+    requires there { All (λ v. v < length rows.now) vars.now }
+    ensures { take (length vars.now) out.new ≡ map (row_at rows.now) vars.now }
+{
+    for (i, var) in vars.iter().enumerate() {
+        out[i] = rows[usize::from(*var)];
+    }
 }
 
 // Whether a set has at most `t` shares of each input.

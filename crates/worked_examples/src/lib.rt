@@ -6,6 +6,8 @@ mod fixture;
 #[cfg(test)]
 mod limit;
 #[cfg(test)]
+mod randoms;
+#[cfg(test)]
 mod read_faults;
 #[cfg(test)]
 mod refusals;

@@ -8,10 +8,7 @@ use std::test::Fail;
 
 // Files, and the line at which each is refused.
 const REFUSED_FILES: [(&str, u32); 4] = [
-    (
-        "#SHARES 2\n#IN a\n#RANDOMS r0\n#OUT d\nd0 = a0 + r0\nd1 = a1 + r0\n",
-        3,
-    ),
+    ("#SHARES 2\n#IN a\n#RANDOMS r0\n#OUT d\nd0 = a0 + r0\n", 6),
     ("", 1),
     ("#SHARES 2\n#IN a\n#OUT d\n", 4),
     ("#SHARES 2\n#IN a\n#OUT d\nd0 = a0 * a1\nd1 = a1\n", 4),
