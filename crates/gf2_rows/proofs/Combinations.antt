@@ -4,19 +4,16 @@ use Rattle.std.specs.Prelude.{bit_xor}
 use Rattle.std.specs.List.{All}
 use Rattle.std.specs.Int.{bit_at}
 use Rattle.std.specs.Int.Bits.{xor_self, xor_zero_l, xor_zero_r, xor_assoc}
-use Rattle.std.proofs.lemmas.Nat.{xor_comm, xor_lt}
+use Rattle.std.proofs.lemmas.Nat.{pow_pos, xor_comm, xor_lt}
 use Rattle.std.proofs.lemmas.Nat.Bits.{bit_at_xor, bit_at-lt, bit_at_above, bit_at-zero}
 use Rattle.std.proofs.lemmas.Bool.{or_from, cases_lt}
 use Rattle.std.proofs.lemmas.List.{length_push}
-use Rattle.std.proofs.lemmas.List.Elements.{All-tail}
+use Rattle.std.proofs.lemmas.List.Elements.{All-head, All-tail}
 use Rattle.std.proofs.lemmas.List.Folds.{list_any-append}
 use Rattle.std.proofs.Math.Nat.{two-pow-succ, div-lt_iff_lt-mul}
 use Rattle.gadget_model.specs.Bits.{add}
 use Rattle.bit_lists.specs.BitLists.{add_bits}
 use Rattle.gf2_rows.specs.Combinations.{combine, choice_of, masked_sum, takes_any}
-
-pub All-head : {X : Type 0} (P : X → Type 0) (x : X) (xs : List X) → All P (x ∷ xs) → P x
-All-head P x xs h = h 0 x (omega arith)
 
 -- (a ^ b) ^ (c ^ d) = (a ^ c) ^ (b ^ d)
 pub xor-middle : (a b c d : ℕ) → bit_xor (bit_xor a b) (bit_xor c d) ≡ bit_xor (bit_xor a c) (bit_xor b d)
@@ -136,16 +133,12 @@ combine-push (c ∷ cs) [] b x e = absurd (omega arith)
 combine-push (c ∷ cs) (y ∷ xs) b x e =
     ap (bit_xor (cond c y 0)) (combine-push cs xs b x (omega arith)) ∙ sym (xor_assoc (cond c y 0) (combine cs xs) (cond b x 0))
 
-pub pow_positive : (n : ℕ) → 0 < 2 ^ n
-pow_positive zero = omega arith
-pow_positive (suc n) = let h = pow_positive n in let e = two-pow-succ n in omega arith
-
 pub combine-below : (n : ℕ) (c : List Bool) (xs : List ℕ) → All (λ x. x < 2 ^ n) xs → combine c xs < 2 ^ n
-combine-below n [] xs h = pow_positive n
-combine-below n (c ∷ cs) [] h = pow_positive n
+combine-below n [] xs h = pow_pos n
+combine-below n (c ∷ cs) [] h = pow_pos n
 combine-below n (true ∷ cs) (x ∷ xs) h =
     xor_lt n x (combine cs xs) (All-head (λ (y : ℕ). y < 2 ^ n) x xs h) (combine-below n cs xs (All-tail (λ (y : ℕ). y < 2 ^ n) x xs h))
-combine-below n (false ∷ cs) (x ∷ xs) h = xor_lt n 0 (combine cs xs) (pow_positive n) (combine-below n cs xs (All-tail (λ (y : ℕ). y < 2 ^ n) x xs h))
+combine-below n (false ∷ cs) (x ∷ xs) h = xor_lt n 0 (combine cs xs) (pow_pos n) (combine-below n cs xs (All-tail (λ (y : ℕ). y < 2 ^ n) x xs h))
 
 pub masked_sum-xor : (a b : ℕ) (rows : List ℕ) → masked_sum (bit_xor a b) rows ≡ bit_xor (masked_sum a rows) (masked_sum b rows)
 masked_sum-xor a b rows =

@@ -1,23 +1,22 @@
 -- The invariant of elimination, and that each row keeps it: a row becomes one pivot or one mask.
-use Rattle.std.proofs.Common.{◌≡◌, ℕ, zero, suc, ◌+◌, ◌*◌, ◌%◌, ◌^◌, ◌<◌, ◌≤◌, Bool, true, false, cond, eqb, List, [], ◌∷◌, ◌++◌, map, length, take, get_or, refl, ap, sym, ◌∙◌, inl, inr, arith, subst}
+use Rattle.std.proofs.Common.{◌≡◌, ℕ, zero, suc, ◌+◌, ◌^◌, ◌<◌, ◌≤◌, Bool, true, false, cond, eqb, List, [], ◌∷◌, ◌++◌, map, length, take, get_or, refl, ap, sym, ◌∙◌, inl, inr, arith, subst}
 use Rattle.std.specs.Prelude.{bit_xor}
 use Rattle.std.specs.List.{All}
 use Rattle.std.specs.Int.{bit_at, trailing_zeros}
 use mir.Syntax.{w128}
 use Rattle.std.specs.Int.Bits.{xor_zero_l, xor_zero_r, xor_assoc}
-use Rattle.std.proofs.lemmas.Nat.{xor_comm, xor_lt}
+use Rattle.std.proofs.lemmas.Nat.{pow_pos, xor_comm, xor_lt}
 use Rattle.std.proofs.lemmas.Nat.Bits.{bit_at-pow_same, bit_at-pow_other, bit_at-zero, bit_at-trailing_zeros}
 use Rattle.std.proofs.lemmas.Bool.{or_from}
 use Rattle.std.proofs.lemmas.List.{length_push, map_push, length-map, length-take-le, take_more, take_all}
-use Rattle.std.proofs.lemmas.List.Elements.{All-nil, All-tail, All-map, All-push}
+use Rattle.std.proofs.lemmas.List.Elements.{All-nil, All-head, All-tail, All-map, All-push}
 use Rattle.std.proofs.lemmas.List.Folds.{list_any-append}
-use Rattle.std.proofs.Math.Nat.{two-pow-succ, mod-eq_of_lt}
-use Rattle.std.proofs.Math.Pow.{pow-lt}
+use Rattle.std.proofs.Math.Nat.{two-pow-succ}
 use Rattle.gf2_rows.specs.declared.pivot_list.Combination.{Combination}
 use Rattle.gf2_rows.specs.declared.pivot_list.Pivot.{Pivot}
 use Rattle.gf2_rows.specs.Combinations.{combine, choice_of, masked_sum, takes_any, Cancels, AreIndependent, SpanCancelling}
 use Rattle.gf2_rows.specs.Reduction.{reduced_by}
-use Rattle.gf2_rows.proofs.Combinations.{All-head, xor-cancel, xor-swap_last, xor-below_top, bit_at-xor_zero, top_bit, bit_at-top, takes_any-choice_of, combine-none, combine-push, combine-below, combine-nil, masked_sum-xor, masked_sum-combine, masked_sum-push, masked_sum-push_below, pow_positive}
+use Rattle.gf2_rows.proofs.Combinations.{xor-cancel, xor-swap_last, xor-below_top, bit_at-xor_zero, top_bit, bit_at-top, takes_any-choice_of, combine-none, combine-push, combine-below, combine-nil, masked_sum-xor, masked_sum-combine, masked_sum-push, masked_sum-push_below}
 use Rattle.gf2_rows.proofs.Reduction.{totals_of, masks_of, IsEchelon, IsReduction, IsClear, reduced_by-is_reduction, reduced_by-clear, IsEchelon-independent, IsEchelon-push}
 
 -- the combination is one of the rows, with their sum
@@ -130,7 +129,7 @@ IsNewest-reduced rows ps r c h s =
     let n = length rows in
     let old = combine s.0 (masks_of ps) in
     let low : old < 2 ^ n = combine-below n s.0 (masks_of ps) (masks_of-below rows ps h) in
-    let power_small : 2 ^ n < 2 ^ suc n = let e = two-pow-succ n in let p = pow_positive n in omega arith in
+    let power_small : 2 ^ n < 2 ^ suc n = let e = two-pow-succ n in let p = pow_pos n in omega arith in
     let top : bit_at c.mask n ≡ 1 = ap (λ (z : ℕ). bit_at z n) s.3 ∙ bit_at-xor_zero (2 ^ n) old n (bit_at-top n old low) ∙ bit_at-pow_same n in
     let power : masked_sum (2 ^ n) rows ≡ 0 =
     combine-none (choice_of n (2 ^ n)) rows (takes_any-choice_of n (2 ^ n) (λ k l. bit_at-pow_other n k (λ e. absurd (omega arith)))) in
@@ -172,7 +171,7 @@ takes_any-push n masks mask below top h e true l z =
     absurd (omega (arith, one, none))
 takes_any-push n masks mask below top h e false l z =
     list_any-append (λ b. b) e (false ∷ [])
-    ∙ or_from (takes_any e) (false) (h e l (sym (xor_zero_r (combine e masks)) ∙ z)) refl
+    ∙ or_from (takes_any e) false (h e l (sym (xor_zero_r (combine e masks)) ∙ z)) refl
 
 -- a mask with a top bit of its own is no sum of the others
 AreIndependent-push : (n : ℕ) (masks : List ℕ) (mask : ℕ) → All (λ m. m < 2 ^ n) masks → bit_at mask n ≡ 1 → AreIndependent masks → AreIndependent (masks ++ mask ∷ [])
@@ -322,12 +321,6 @@ IsEliminatedTo-push_pivot rows i ps masks row h l e fits ne =
       bits = All-push (λ p. p.bit < 128) ps q h.bits first.0;
       room = omega arith;
     }
-
-pub one_shifted : (i : ℕ) → i < 64 → 1 * 2 ^ i % 2 ^ 64 ≡ 2 ^ i
-one_shifted i h =
-    let p = pow-lt {i = i} {j = 64} h in
-    let e : 1 * 2 ^ i ≡ 2 ^ i = omega arith in
-    ap (λ (z : ℕ). z % 2 ^ 64) e ∙ mod-eq_of_lt p
 
 pub IsEliminatedTo-whole : (rows : List ℕ) (i : ℕ) (ps : List Pivot) (masks : List ℕ) → IsEliminatedTo rows i ps masks → length rows ≤ i → SpanCancelling rows masks
 IsEliminatedTo-whole rows i ps masks h l =

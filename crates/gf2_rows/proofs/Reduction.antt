@@ -1,17 +1,17 @@
 -- What the reduction of a row by pivots in echelon form gives.
-use Rattle.std.proofs.Common.{◌≡◌, ℕ, zero, suc, Bool, true, false, cond, eqb, List, [], ◌∷◌, ◌++◌, map, length, refl, ap, sym, ◌∙◌, inl, inr, arith}
+use Rattle.std.proofs.Common.{◌≡◌, ℕ, suc, Bool, true, false, cond, eqb, List, [], ◌∷◌, ◌++◌, map, length, refl, ap, sym, ◌∙◌, inl, inr, arith}
 use Rattle.std.specs.Prelude.{bit_xor}
 use Rattle.std.specs.List.{All}
 use Rattle.std.specs.Int.{bit_at}
 use Rattle.std.specs.Int.Bits.{xor_zero_l, xor_zero_r, xor_assoc}
 use Rattle.std.proofs.lemmas.Nat.Bits.{bit_at-zero}
 use Rattle.std.proofs.lemmas.Bool.{eqb-true, eqb-false}
-use Rattle.std.proofs.lemmas.List.Elements.{All-nil, All-tail, All-push}
+use Rattle.std.proofs.lemmas.List.Elements.{All-nil, All-cons, All-head, All-tail, All-push}
 use Rattle.gf2_rows.specs.declared.pivot_list.Combination.{Combination}
 use Rattle.gf2_rows.specs.declared.pivot_list.Pivot.{Pivot}
 use Rattle.gf2_rows.specs.Combinations.{combine, takes_any}
 use Rattle.gf2_rows.specs.Reduction.{plus, reduced_by}
-use Rattle.gf2_rows.proofs.Combinations.{All-head, bit_cases, bit_at-xor_zero, bit_at-xor_ones}
+use Rattle.gf2_rows.proofs.Combinations.{bit_cases, bit_at-xor_zero, bit_at-xor_ones}
 
 abbrev pub totals_of : List Pivot → List ℕ
 totals_of ps = map (λ p. p.row.total) ps
@@ -68,10 +68,6 @@ reduced_by-keeps_bit (p ∷ ps) row bit h =
 -- the bits of the pivots are gone
 abbrev pub IsClear : List Pivot → ℕ → Type 0
 IsClear ps total = All (λ p. bit_at total p.bit ≡ 0) ps
-
-All-cons : {X : Type 0} (P : X → Type 0) (x : X) (xs : List X) → P x → All P xs → All P (x ∷ xs)
-All-cons P x xs h t zero d l = h
-All-cons P x xs h t (suc k) d l = t k d (omega arith)
 
 clear_from : (p : Pivot) (ps : List Pivot) (row : Combination) → IsEchelon (p ∷ ps) →
     ((row : Combination) → IsEchelon ps → IsClear ps (reduced_by ps row).total) →

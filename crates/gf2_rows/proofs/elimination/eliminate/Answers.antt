@@ -2,8 +2,9 @@ use Rattle.std.proofs.Common.{◌≡◌, ◌+◌, ◌<◌, [], ◌∷◌, ◌++�
 use Rattle.std.specs.Int.{trailing_zeros}
 use mir.Syntax.{w128}
 use Rattle.gf2_rows.specs.declared.pivot_list.Pivot.{Pivot}
+use Rattle.std.proofs.lemmas.Nat.{one_shl}
 use Rattle.gf2_rows.specs.Reduction.{reduced_by}
-use Rattle.gf2_rows.proofs.Eliminated.{IsEliminatedTo-replace, IsEliminatedTo-zero, IsEliminatedTo-push_mask, IsEliminatedTo-push_pivot, IsEliminatedTo-whole, row_at, one_shifted}
+use Rattle.gf2_rows.proofs.Eliminated.{IsEliminatedTo-replace, IsEliminatedTo-zero, IsEliminatedTo-push_mask, IsEliminatedTo-push_pivot, IsEliminatedTo-whole, row_at}
 use Rattle.gf2_rows.proofs.elimination.eliminate.Goals as goal
 use Rattle.gf2_rows.proofs.elimination.eliminate.Goals.{then-row-eq0, else-row-eq0}
 
@@ -20,7 +21,7 @@ loop-i-preserved c =
     let masks = c.loop-i.found in
     let row = c.reduced-row.result in
     let less : i < 64 = omega arith in
-    let e : row ≡ reduced_by ps (row_at rows i) = let s = one_shifted i less in cc in
+    let e : row ≡ reduced_by ps (row_at rows i) = let s = one_shl i 64 less in cc in
     elim c.if-row-eq0.branch [
       | then-row-eq0 w ↦
           IsEliminatedTo-replace rows (i + 1) ps c.if-row-eq0.echelon (masks ++ row.mask ∷ []) c.if-row-eq0.found
