@@ -1,0 +1,2 @@
+pub mod SetSums
+pub mod Rows
