@@ -7,7 +7,8 @@ use Rattle.std.proofs.lemmas.Nat.{xor_comm, xor_lt}
 use Rattle.std.proofs.lemmas.Nat.Bits.{bit_at-pow_same, bit_at-pow_other}
 use Rattle.std.proofs.Math.Nat.{two-pow-succ}
 use Rattle.gf2_rows.specs.Combinations.{choice_of}
-use Rattle.gf2_rows.proofs.Combinations.{bit_at-xor_zero, bit_at-top, pow_positive}
+use Rattle.std.proofs.lemmas.Nat.{pow_pos}
+use Rattle.gf2_rows.proofs.Combinations.{bit_at-xor_zero, bit_at-top}
 
 -- a choice of one more row is one of n rows and a last place
 split_last : (n : ℕ) (c : List Bool) → length c ≡ suc n → (e : List Bool) × (b : Bool) × (c ≡ e ++ b ∷ []) × (length e ≡ n)
@@ -32,7 +33,7 @@ IsMaskOf n c mask = (mask < 2 ^ n) × (choice_of n mask ≡ c)
 IsMaskOf-push : (n mask : ℕ) (b : Bool) → mask < 2 ^ n → IsMaskOf (suc n) (choice_of n mask ++ b ∷ []) (bit_xor mask (cond b (2 ^ n) 0))
 IsMaskOf-push n mask true l =
     let e = two-pow-succ n in
-    let p = pow_positive n in
+    let p = pow_pos n in
     let top : bit_at (bit_xor mask (2 ^ n)) n ≡ 1 =
     ap (λ (z : ℕ). bit_at z n) (xor_comm mask (2 ^ n)) ∙ bit_at-xor_zero (2 ^ n) mask n (bit_at-top n mask l) ∙ bit_at-pow_same n in (
       xor_lt (suc n) mask (2 ^ n) (omega arith) (omega arith),
@@ -42,7 +43,7 @@ IsMaskOf-push n mask true l =
     )
 IsMaskOf-push n mask false l =
     let e = two-pow-succ n in
-    let p = pow_positive n in
+    let p = pow_pos n in
     let k : mask < 2 ^ suc n = omega arith in (
       subst (λ (z : ℕ). z < 2 ^ suc n) (sym (xor_zero_r mask)) k,
       ap (λ (z : ℕ). choice_of (suc n) z) (xor_zero_r mask) ∙ ap (λ (z : ℕ). choice_of n mask ++ eqb z 1 ∷ []) (bit_at-top n mask l),

@@ -7,7 +7,8 @@ use Rattle.gadget_model.specs.Bits.{add}
 use Rattle.gadget_model.proofs.Sums.{add-false}
 use Rattle.bit_lists.specs.BitLists.{add_bits}
 use Rattle.simulation_law.proofs.Linear.{zeros, length-zeros}
-use Rattle.gf2_rows.proofs.Combinations.{bit_cases, pow_positive}
+use Rattle.std.proofs.lemmas.Nat.{pow_pos}
+use Rattle.gf2_rows.proofs.Combinations.{bit_cases}
 use Rattle.needed.specs.SetSums.{set_sum}
 use Rattle.needed.specs.Rows.{random_at}
 use Rattle.needed.proofs.SetSums.{only, set_sum-along, set_sum-only, set_sum-add}
@@ -55,7 +56,7 @@ random_at-only_random (suc n) (suc k) (suc j) l = random_at-only_random n k j (o
 -- a set of randoms whose sum is false for each assignment is empty
 pub zero_from_random_sums : (n set : ℕ) → set < 2 ^ n → ((r : List Bool) → length r ≡ n → set_sum n set (random_at r) ≡ false) → set ≡ 0
 zero_from_random_sums n set below none =
-    same_from_bits_below n set 0 below (pow_positive n) (λ k l. elim (bit_cases set k) [
+    same_from_bits_below n set 0 below (pow_pos n) (λ k l. elim (bit_cases set k) [
       | inl zero_bit ↦ zero_bit ∙ sym (bit_at-zero k)
       | inr one_bit ↦ absurd (false≢true (
           sym (none (only_random n k) (length-only_random n k))

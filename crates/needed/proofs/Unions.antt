@@ -8,7 +8,8 @@ use Rattle.std.proofs.lemmas.Nat.Bits.{bit_at-lt, bit_at_or, bit_at-zero}
 use Rattle.std.proofs.lemmas.List.Elements.{All-tail}
 use Rattle.gadget_model.specs.Simulation.{IsWithin}
 use Rattle.gf2_rows.specs.Combinations.{combine, masked_sum}
-use Rattle.gf2_rows.proofs.Combinations.{All-head, bit_cases, bit_at-xor_zero}
+use Rattle.std.proofs.lemmas.List.Elements.{All-head}
+use Rattle.gf2_rows.proofs.Combinations.{bit_cases, bit_at-xor_zero}
 use Rattle.needed.specs.Rows.{union_of_masks}
 
 IsWithin-zero : (set : ℕ) → IsWithin 0 set
