@@ -1,9 +1,10 @@
 -- Header lines, word by word.
-use Rattle.std.proofs.Common.{◌≡◌, ℕ, ◌≤◌, ◌+◌, List, [], ◌∷◌, length, get_or, drop, ap, sym, ◌∙◌, arith, Bor, Option, Some, None}
+use Rattle.std.proofs.Common.{◌≡◌, ◌≢◌, ℕ, ◌≤◌, ◌+◌, ◌++◌, List, [], ◌∷◌, length, get_or, drop, ap, sym, ◌∙◌, arith, Bor, Option, Some, None}
 use Rattle.std.specs.Prelude.{All, IsTrue, codes, decimal}
 use Rattle.std.proofs.lemmas.List.{length-map}
-use Rattle.gadget_tree.specs.LinearForm.{words_of, is_stem, IsSharesLine}
+use Rattle.gadget_tree.specs.LinearForm.{words_of, is_stem, share_names, AreDistinct, IsSharesLine, IsOutLine}
 use Rattle.gadget_tree.specs.Reading.{Reads, IsStemsLine}
+use Rattle.gadget_tree.proofs.Lists.{AllPairs-append_left}
 use Rattle.gadget_tree.proofs.Texts.{texts, first_item}
 
 -- an answer stays right where what is said says the same
@@ -60,3 +61,8 @@ module _ (line : List ℕ) (ws : List (Bor (List ℕ))) (d e : Bor (List ℕ)) (
       go [] e = absurd (cc)
       go (x ∷ []) e = absurd (cc)
       go (x ∷ y ∷ ws) e = cc
+
+-- behind the line `#OUT` the names of input shares and randoms differ
+pub header_names-distinct : (n : ℕ) (inputs randoms outputs : List (List ℕ)) (line : List ℕ) → IsOutLine n inputs randoms line outputs → AreDistinct (share_names n inputs ++ randoms)
+header_names-distinct n inputs randoms outputs line o =
+    AllPairs-append_left (λ a b. a ≢ b) (share_names n inputs ++ randoms) (share_names n outputs) o.distinct

@@ -9,6 +9,7 @@ pub mod OperationLines
 pub mod Operations
 pub mod Prefixes
 pub mod Pushes
+pub mod RandomVariables
 pub mod ShareVariables
 pub mod Texts
 pub mod Variables

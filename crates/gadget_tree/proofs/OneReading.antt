@@ -3,10 +3,11 @@ use Rattle.std.proofs.Common.{◌≡◌, ℕ, ◌<◌, ◌+◌, ◌++◌, List, 
 use Rattle.std.specs.Prelude.{decimal}
 use Rattle.std.proofs.lemmas.Fmt.{decimal_injective}
 use Rattle.gadget_model.specs.Circuit.{Node, share, random, copy, sum_of, product_of, Variable, Circuit}
-use Rattle.gadget_tree.specs.LinearForm.{names_of, name_at, AreDistinct, share_names, share_variables, IsSharesLine, IsInLine, IsOutLine, WritesNode, IsOperationLine, linear_gadget, NextLine, OperationLines, EndOfFile, AfterOut, AfterIn, AfterShares, LinesSay}
+use Rattle.gadget_tree.specs.LinearForm.{names_of, name_at, AreDistinct, share_names, share_variables, random_variables, IsSharesLine, IsInLine, IsRandomsLine, IsOutLine, WritesNode, IsOperationLine, linear_gadget, NextLine, OperationLines, EndOfFile, AfterOut, AfterRandoms, AfterIn, AfterShares, LinesSay}
+use Rattle.gadget_tree.proofs.HeaderLines.{header_names-distinct}
 use Rattle.gadget_tree.proofs.NamesOf.{named_once, named_all_once}
 use Rattle.gadget_tree.proofs.Prefixes.{distinct_more}
-use Rattle.gadget_tree.proofs.ShareVariables.{names_of-share_variables}
+use Rattle.gadget_tree.proofs.RandomVariables.{names_of-header_variables}
 
 shares_once : (line : List ℕ) (m n : ℕ) → IsSharesLine line m → IsSharesLine line n → m ≡ n
 shares_once line m n h k =
@@ -20,8 +21,11 @@ shares_once line m n h k =
 inputs_once : (n : ℕ) (line : List ℕ) (a b : List (List ℕ)) → IsInLine n line a → IsInLine n line b → a ≡ b
 inputs_once n line a b h k = let e = h.words in let f = k.words in cc
 
-outputs_once : (n : ℕ) (inputs : List (List ℕ)) (line : List ℕ) (a b : List (List ℕ)) → IsOutLine n inputs line a → IsOutLine n inputs line b → a ≡ b
-outputs_once n inputs line a b h k = let e = h.words in let f = k.words in cc
+randoms_once : (n : ℕ) (inputs : List (List ℕ)) (line : List ℕ) (a b : List (List ℕ)) → IsRandomsLine n inputs line a → IsRandomsLine n inputs line b → a ≡ b
+randoms_once n inputs line a b h k = let e = h.words in let f = k.words in cc
+
+outputs_once : (n : ℕ) (inputs randoms : List (List ℕ)) (line : List ℕ) (a b : List (List ℕ)) → IsOutLine n inputs randoms line a → IsOutLine n inputs randoms line b → a ≡ b
+outputs_once n inputs randoms line a b h k = let e = h.words in let f = k.words in cc
 
 module _ (vs : List Variable) (distinct : AreDistinct (names_of vs)) (words : List (List ℕ)) (x y : List ℕ) where
   same_operand : (a b : ℕ) → a < length vs → b < length vs → name_at vs a ≡ name_at vs b → a ≡ b
@@ -79,19 +83,31 @@ module _ (r s : Result Circuit ℕ) where
   operations_once End Also same (line ∷ lines) number vs distinct (inr t) (inl u) = absurd (t.0 u.0 u.1)
   operations_once End Also same (line ∷ lines) number vs distinct (inr t) (inr u) = t.1 ∙ sym u.1
 
-  end_once : (n : ℕ) (inputs outputs : List (List ℕ)) (number : ℕ) (vs : List Variable) → AreDistinct (names_of vs) → EndOfFile n inputs outputs r number vs → EndOfFile n inputs outputs s number vs → r ≡ s
-  end_once n inputs outputs number vs distinct (inl t) (inl u) =
-      t.2 ∙ ap (λ (shares : List ℕ). let read : Result Circuit ℕ = Ok (linear_gadget n inputs outputs shares vs) in read) (named_all_once vs distinct (share_names n outputs) t.0 u.0 t.1 u.1) ∙ sym u.2
-  end_once n inputs outputs number vs distinct (inl t) (inr u) = absurd (u.0 t.0 t.1)
-  end_once n inputs outputs number vs distinct (inr t) (inl u) = absurd (t.0 u.0 u.1)
-  end_once n inputs outputs number vs distinct (inr t) (inr u) = t.1 ∙ sym u.1
+  end_once : (n : ℕ) (inputs : List (List ℕ)) (randoms : ℕ) (outputs : List (List ℕ)) (number : ℕ) (vs : List Variable) → AreDistinct (names_of vs) → EndOfFile n inputs randoms outputs r number vs → EndOfFile n inputs randoms outputs s number vs → r ≡ s
+  end_once n inputs randoms outputs number vs distinct (inl t) (inl u) =
+      t.2 ∙ ap (λ (shares : List ℕ). let read : Result Circuit ℕ = Ok (linear_gadget n inputs randoms outputs shares vs) in read) (named_all_once vs distinct (share_names n outputs) t.0 u.0 t.1 u.1) ∙ sym u.2
+  end_once n inputs randoms outputs number vs distinct (inl t) (inr u) = absurd (u.0 t.0 t.1)
+  end_once n inputs randoms outputs number vs distinct (inr t) (inl u) = absurd (t.0 u.0 u.1)
+  end_once n inputs randoms outputs number vs distinct (inr t) (inr u) = t.1 ∙ sym u.1
+
+  after_randoms_once : (number n : ℕ) (inputs randoms : List (List ℕ)) (lines : List (List ℕ)) → AfterRandoms number n inputs randoms lines r → AfterRandoms number n inputs randoms lines s → r ≡ s
+  after_randoms_once number n inputs randoms lines h k =
+      next_once (IsOutLine n inputs randoms) (λ outputs after. AfterOut (number + 1) n inputs randoms outputs after r) (λ outputs after. AfterOut (number + 1) n inputs randoms outputs after s) number lines (outputs_once n inputs randoms)
+      (λ line outputs after is_out h k. operations_once (EndOfFile n inputs (length randoms) outputs r) (EndOfFile n inputs (length randoms) outputs s) (end_once n inputs (length randoms) outputs) after (number + 1)
+      (share_variables n 0 inputs ++ random_variables 0 randoms) (subst AreDistinct (sym (names_of-header_variables n inputs randoms)) (header_names-distinct n inputs randoms outputs line is_out)) h k)
+      h k
+
+  after_in_once : (n : ℕ) (inputs : List (List ℕ)) (lines : List (List ℕ)) → AfterIn n inputs lines r → AfterIn n inputs lines s → r ≡ s
+  after_in_once n inputs [] h k = h ∙ sym k
+  after_in_once n inputs (line ∷ lines) (inl t) (inl u) =
+      after_randoms_once 4 n inputs t.0 lines t.2 (subst (λ randoms. AfterRandoms 4 n inputs randoms lines s) (sym (randoms_once n inputs line t.0 u.0 t.1 u.1)) u.2)
+  after_in_once n inputs (line ∷ lines) (inl t) (inr u) = absurd (u.0 t.0 t.1)
+  after_in_once n inputs (line ∷ lines) (inr t) (inl u) = absurd (t.0 u.0 u.1)
+  after_in_once n inputs (line ∷ lines) (inr t) (inr u) = after_randoms_once 3 n inputs [] (line ∷ lines) t.1 u.1
 
   pub lines_once : (lines : List (List ℕ)) → LinesSay lines r → LinesSay lines s → r ≡ s
   lines_once lines h k = next_once IsSharesLine (λ n after. AfterShares n after r) (λ n after. AfterShares n after s) 1 lines shares_once
       (λ line_1 n after_1 is_shares h k. next_once (IsInLine n) (λ inputs after. AfterIn n inputs after r) (λ inputs after. AfterIn n inputs after s) 2 after_1 (inputs_once n)
-      (λ line_2 inputs after_2 is_in h k. next_once (IsOutLine n inputs) (λ outputs after. AfterOut n inputs outputs after r) (λ outputs after. AfterOut n inputs outputs after s) 3 after_2 (outputs_once n inputs)
-      (λ line_3 outputs after_3 is_out h k. operations_once (EndOfFile n inputs outputs r) (EndOfFile n inputs outputs s) (end_once n inputs outputs) after_3 4 (share_variables n 0 inputs)
-      (subst AreDistinct (sym (names_of-share_variables n 0 inputs)) is_in.distinct) h k)
-      h k)
+      (λ line_2 inputs after_2 is_in h k. after_in_once n inputs after_2 h k)
       h k)
       h k

@@ -2,7 +2,7 @@
 use Rattle.std.proofs.Common.{◌≡◌, ℕ, ◌<◌, ◌≤◌, ◌+◌, ◌++◌, List, [], ◌∷◌, length, get_or, drop, sym, subst, Bor, inl, Result}
 use Rattle.std.proofs.lemmas.List.{drop_more, at_drop_all}
 use Rattle.gadget_model.specs.Circuit.{Circuit, Variable}
-use Rattle.gadget_tree.specs.LinearForm.{IsOperationLine, OperationLines, EndOfFile, AfterOut, LinesSay, share_variables}
+use Rattle.gadget_tree.specs.LinearForm.{IsOperationLine, OperationLines, EndOfFile, AfterOut, LinesSay, share_variables, random_variables}
 use Rattle.gadget_tree.specs.Reading.{GoesOn}
 use Rattle.gadget_tree.proofs.Texts.{texts}
 
@@ -21,10 +21,10 @@ module _ (End : ℕ → List Variable → Type 0) (ls : List (Bor (List ℕ))) (
       subst (λ (rest : List (Bor (List ℕ))). OperationLines End number earlier (texts rest) r) (sym (at_drop_all (λ (rest : List (Bor (List ℕ))). rest) ls i l)) (subst (λ m. End m earlier) (sym e) h)
 
 -- what the lines say, from what is said behind the operations
-pub behind_operations : (lines ops : List (Bor (List ℕ))) (n : ℕ) (inputs outputs : List (List ℕ)) (start vs : List Variable)
-    → ((r : Result Circuit ℕ) → AfterOut n inputs outputs (texts (drop 3 lines)) r → LinesSay (texts lines) r)
-    → start ≡ share_variables n 0 inputs → ops ≡ drop 3 lines → GoesOn 4 start (texts ops) (4 + length ops) vs []
-    → (r : Result Circuit ℕ) → EndOfFile n inputs outputs r (4 + length ops) vs → LinesSay (texts lines) r
-behind_operations lines ops n inputs outputs start vs header e o going r h =
-    header r (subst (λ ls. AfterOut n inputs outputs (texts ls) r) o
-    (subst (λ earlier. OperationLines (EndOfFile n inputs outputs r) 4 earlier (texts ops) r) e (going n inputs outputs r h)))
+pub behind_operations : (lines ops : List (Bor (List ℕ))) (first header_lines n : ℕ) (inputs randoms outputs : List (List ℕ)) (start vs : List Variable)
+    → ((r : Result Circuit ℕ) → AfterOut first n inputs randoms outputs (texts (drop header_lines lines)) r → LinesSay (texts lines) r)
+    → start ≡ share_variables n 0 inputs ++ random_variables 0 randoms → ops ≡ drop header_lines lines → GoesOn first start (texts ops) (first + length ops) vs []
+    → (r : Result Circuit ℕ) → EndOfFile n inputs (length randoms) outputs r (first + length ops) vs → LinesSay (texts lines) r
+behind_operations lines ops first header_lines n inputs randoms outputs start vs header e o going r h =
+    header r (subst (λ ls. AfterOut first n inputs randoms outputs (texts ls) r) o
+    (subst (λ earlier. OperationLines (EndOfFile n inputs (length randoms) outputs r) first earlier (texts ops) r) e (going n inputs (length randoms) outputs r h)))

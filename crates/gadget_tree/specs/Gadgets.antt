@@ -3,10 +3,10 @@ use Rattle.std.specs.Prelude.{◌≡◌, ◌≢◌, ℕ, ◌+◌, ◌*◌, ◌<�
 use Rattle.gadget_model.specs.Circuit.{Node, share, random, copy, sum_of, product_of, Circuit, nodes, IsInOrder}
 use Rattle.gadget_tree.specs.LinearForm.{names_of, AreDistinct}
 
--- a share's number has an input and an index of the gadget, no variable is a random or a product
+-- a share's number has an input and an index of the gadget, and no variable is a product
 abbrev pub IsLinearNode : Circuit → Node → Type 0
 IsLinearNode g (share k) = (input : ℕ) × (index : ℕ) × (input < length g.inputs) × (index < g.shares) × (k ≡ 16 * input + index)
-IsLinearNode g (random k) = ⊥
+IsLinearNode g (random k) = Unit {0}
 IsLinearNode g (copy a) = Unit {0}
 IsLinearNode g (sum_of a b) = Unit {0}
 IsLinearNode g (product_of a b) = ⊥
@@ -20,7 +20,7 @@ pub record IsGadget (g : Circuit) : Type 0 where
   pub few_inputs : length g.inputs ≤ 4
   pub some_outputs : 1 ≤ length g.outputs
   pub few_outputs : length g.outputs ≤ 2
-  pub no_randoms : g.randoms ≡ 0
+  pub few_randoms : g.randoms ≤ 128
   pub few_variables : length g.variables ≤ 511
   pub distinct_names : AreDistinct (names_of g.variables)
   pub in_order : IsInOrder g

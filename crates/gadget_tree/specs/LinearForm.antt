@@ -2,6 +2,7 @@
 --
 --     #SHARES n         how many shares, from 1 to 16, without a leading zero
 --     #IN a b ..        one to four inputs; input a has the shares a0, a1, .. a(n-1)
+--     #RANDOMS r s ..   one to 128 randoms; a gadget without randoms has no such line
 --     #OUT d ..         one or two outputs, with shares named in the same way
 --     x = a             and then a line for each operation: a copy of an earlier variable,
 --     x = a + b         or the sum of two
@@ -65,12 +66,20 @@ pub record IsInLine (n : ℕ) (line : List ℕ) (inputs : List (List ℕ)) : Typ
   pub distinct : AreDistinct (share_names n inputs)
   pub words : words_of line ≡ codes "#IN" ∷ inputs
 
--- the line is `#OUT` with these stems, whose shares have names of their own
-pub record IsOutLine (n : ℕ) (inputs : List (List ℕ)) (line : List ℕ) (outputs : List (List ℕ)) : Type 0 where
+-- the line is `#RANDOMS` with these stems, which are different and name no input share
+pub record IsRandomsLine (n : ℕ) (inputs : List (List ℕ)) (line : List ℕ) (randoms : List (List ℕ)) : Type 0 where
+  pub some : 1 ≤ length randoms
+  pub few : length randoms ≤ 128
+  pub stems : All (λ w. IsTrue (is_stem w)) randoms
+  pub distinct : AreDistinct (share_names n inputs ++ randoms)
+  pub words : words_of line ≡ codes "#RANDOMS" ∷ randoms
+
+-- the line is `#OUT` with these stems, whose shares have names of their own: not those of input shares or randoms
+pub record IsOutLine (n : ℕ) (inputs randoms : List (List ℕ)) (line : List ℕ) (outputs : List (List ℕ)) : Type 0 where
   pub some : 1 ≤ length outputs
   pub few : length outputs ≤ 2
   pub stems : All (λ w. IsTrue (is_stem w)) outputs
-  pub distinct : AreDistinct (share_names n inputs ++ share_names n outputs)
+  pub distinct : AreDistinct (share_names n inputs ++ randoms ++ share_names n outputs)
   pub words : words_of line ≡ codes "#OUT" ∷ outputs
 
 -- the variables of the n shares of input k; their line is that of `#IN`
@@ -81,6 +90,11 @@ shares_of_input n k stem = map (λ i. record { name = share_name stem i; node = 
 abbrev pub share_variables : ℕ → ℕ → List (List ℕ) → List Variable
 share_variables n k [] = []
 share_variables n k (stem ∷ stems) = shares_of_input n k stem ++ share_variables n (suc k) stems
+
+-- the variables of the randoms, from random k on; their line is that of `#RANDOMS`
+abbrev pub random_variables : ℕ → List (List ℕ) → List Variable
+random_variables k [] = []
+random_variables k (stem ∷ stems) = record { name = stem; node = random k; line = 3 } ∷ random_variables (suc k) stems
 
 -- the words write a node behind a name: `x = a` or `x = a + b`, with names of earlier variables
 abbrev pub WritesNode : List Variable → List (List ℕ) → List ℕ → Node → Type 0
@@ -106,10 +120,10 @@ IsNamed variables name v = (v < length variables) × (name_at variables v ≡ na
 abbrev pub AreOutputShares : ℕ → List (List ℕ) → List Variable → List ℕ → Type 0
 AreOutputShares n outputs variables output_shares = AllZip (IsNamed variables) (share_names n outputs) output_shares
 
--- a gadget of the linear form, which has no randoms
-abbrev pub linear_gadget : ℕ → List (List ℕ) → List (List ℕ) → List ℕ → List Variable → Circuit
-linear_gadget n inputs outputs output_shares variables =
-    record { shares = n; inputs = inputs; randoms = 0; outputs = outputs; output_shares = output_shares; variables = variables }
+-- a gadget of the linear form, with so many shares and randoms
+abbrev pub linear_gadget : ℕ → List (List ℕ) → ℕ → List (List ℕ) → List ℕ → List Variable → Circuit
+linear_gadget n inputs randoms outputs output_shares variables =
+    record { shares = n; inputs = inputs; randoms = randoms; outputs = outputs; output_shares = output_shares; variables = variables }
 
 -- The next line is allowed, and what follows goes by what it says; or the file ends here or the line isn't allowed,
 -- and its number is the answer.
@@ -125,19 +139,29 @@ OperationLines End number earlier (line ∷ lines) r =
     ⊎ (((v : Variable) → IsOperationLine number earlier line v → ⊥) × (r ≡ Err number))
 
 -- At the end each output share is assigned, and the gadget is the answer; or one is missing, and the number of lines and 1 is.
-abbrev pub EndOfFile : ℕ → List (List ℕ) → List (List ℕ) → Result Circuit ℕ → ℕ → List Variable → Type 0
-EndOfFile n inputs outputs r number variables =
+abbrev pub EndOfFile : ℕ → List (List ℕ) → ℕ → List (List ℕ) → Result Circuit ℕ → ℕ → List Variable → Type 0
+EndOfFile n inputs randoms outputs r number variables =
     ((shares : List ℕ) × AreOutputShares n outputs variables shares
-    × (r ≡ Ok (linear_gadget n inputs outputs shares variables)))
+    × (r ≡ Ok (linear_gadget n inputs randoms outputs shares variables)))
     ⊎ (((shares : List ℕ) → AreOutputShares n outputs variables shares → ⊥) × (r ≡ Err number))
 
--- what is said behind the line `#OUT`
-abbrev pub AfterOut : ℕ → List (List ℕ) → List (List ℕ) → List (List ℕ) → Result Circuit ℕ → Type 0
-AfterOut n inputs outputs lines r = OperationLines (EndOfFile n inputs outputs r) 4 (share_variables n 0 inputs) lines r
+-- what is said behind the line `#OUT`, from the line with this number on
+abbrev pub AfterOut : ℕ → ℕ → List (List ℕ) → List (List ℕ) → List (List ℕ) → List (List ℕ) → Result Circuit ℕ → Type 0
+AfterOut number n inputs randoms outputs lines r =
+    OperationLines (EndOfFile n inputs (length randoms) outputs r) number (share_variables n 0 inputs ++ random_variables 0 randoms) lines r
 
--- what is said behind the line `#IN`
+-- what is said where the randoms are known, from the line with this number on, which is `#OUT`
+abbrev pub AfterRandoms : ℕ → ℕ → List (List ℕ) → List (List ℕ) → List (List ℕ) → Result Circuit ℕ → Type 0
+AfterRandoms number n inputs randoms lines r =
+    NextLine (IsOutLine n inputs randoms) number lines (λ outputs after. AfterOut (number + 1) n inputs randoms outputs after r) r
+
+-- What is said behind the line `#IN`: line 3 is `#RANDOMS`, and `#OUT` is line 4; or it isn't, the gadget has no randoms,
+-- and `#OUT` is line 3.
 abbrev pub AfterIn : ℕ → List (List ℕ) → List (List ℕ) → Result Circuit ℕ → Type 0
-AfterIn n inputs lines r = NextLine (IsOutLine n inputs) 3 lines (λ outputs after. AfterOut n inputs outputs after r) r
+AfterIn n inputs [] r = r ≡ Err 3
+AfterIn n inputs (line ∷ lines) r =
+    ((randoms : List (List ℕ)) × IsRandomsLine n inputs line randoms × AfterRandoms 4 n inputs randoms lines r)
+    ⊎ (((randoms : List (List ℕ)) → IsRandomsLine n inputs line randoms → ⊥) × AfterRandoms 3 n inputs [] (line ∷ lines) r)
 
 -- what is said behind the line `#SHARES`
 abbrev pub AfterShares : ℕ → List (List ℕ) → Result Circuit ℕ → Type 0

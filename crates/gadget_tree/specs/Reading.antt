@@ -1,7 +1,9 @@
 -- What the parts of the reader say of a line: what it says in the linear form, or that it says nothing.
-use Rattle.std.specs.Prelude.{◌≡◌, ℕ, ◌<◌, ◌≤◌, IsTrue, List, [], ◌∷◌, length, All, Contains, Option, Some, None, Result, Err, codes}
+use denote.Ref.{Bor}
+use Rattle.std.specs.Prelude.{◌≡◌, ℕ, ◌+◌, ◌<◌, ◌≤◌, IsTrue, List, [], ◌∷◌, map, drop, length, All, Contains, Option, Some, None, Result, Err, codes}
 use Rattle.gadget_model.specs.Circuit.{Node, share, random, copy, sum_of, product_of, Variable, Circuit}
-use Rattle.gadget_tree.specs.LinearForm.{is_stem, names_of, name_at, words_of, WritesNode, OperationLines, EndOfFile}
+use Rattle.gadget_tree.specs.declared.header.Header.{Header}
+use Rattle.gadget_tree.specs.LinearForm.{is_stem, names_of, name_at, words_of, WritesNode, OperationLines, EndOfFile, AfterOut}
 
 -- An answer is right: what was found is said, or nothing is. The answer is seen as the model sees it.
 abbrev pub Reads : {X A : Type 0} → (X → A) → (A → Type 0) → Option X → Type 0
@@ -40,11 +42,22 @@ pub record IsAssignment (earlier : List Variable) (words : List (List ℕ)) (nam
 -- what is said from a later line on is what is said from an earlier one on, whatever the headers are
 abbrev pub GoesOn : ℕ → List Variable → List (List ℕ) → ℕ → List Variable → List (List ℕ) → Type 0
 GoesOn number earlier lines later_number later later_lines =
-    (n : ℕ) (inputs outputs : List (List ℕ)) (r : Result Circuit ℕ)
-    → OperationLines (EndOfFile n inputs outputs r) later_number later later_lines r
-    → OperationLines (EndOfFile n inputs outputs r) number earlier lines r
+    (n : ℕ) (inputs : List (List ℕ)) (randoms : ℕ) (outputs : List (List ℕ)) (r : Result Circuit ℕ)
+    → OperationLines (EndOfFile n inputs randoms outputs r) later_number later later_lines r
+    → OperationLines (EndOfFile n inputs randoms outputs r) number earlier lines r
 
 -- a line is refused, whatever the headers are
 abbrev pub StopsAt : ℕ → ℕ → List Variable → List (List ℕ) → Type 0
 StopsAt line number earlier lines =
-    (n : ℕ) (inputs outputs : List (List ℕ)) → OperationLines (EndOfFile n inputs outputs (Err line)) number earlier lines (Err line)
+    (n : ℕ) (inputs : List (List ℕ)) (randoms : ℕ) (outputs : List (List ℕ))
+    → OperationLines (EndOfFile n inputs randoms outputs (Err line)) number earlier lines (Err line)
+
+-- The header takes so many of these lines, keeps the limits, and what the lines behind it say is said.
+pub record IsHeader (Says : Result Circuit ℕ → Type 0) (lines : List (Bor (List ℕ))) (h : Header) : Type 0 where
+  pub few_shares : h.shares ≤ 16
+  pub few_inputs : length h.inputs.items ≤ 4
+  pub few_randoms : length h.randoms.items ≤ 128
+  pub few_lines : h.lines ≤ 4
+  pub within : h.lines ≤ length lines
+  pub going : (r : Result Circuit ℕ)
+    → AfterOut (h.lines + 1) h.shares h.inputs.items h.randoms.items h.outputs.items (map (λ w. w.now) (drop h.lines lines)) r → Says r

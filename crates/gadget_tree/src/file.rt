@@ -14,32 +14,35 @@ use crate::header::read_header;
 use crate::lines::lines;
 use crate::name::Name;
 use crate::operation::{number, operation};
-use crate::shares::{extend_share_names, share_vars};
+use crate::randoms::header_vars;
+use crate::shares::extend_share_names;
 use crate::var::Var;
 use std::alloc::{AllocError, Global};
 
 // The lines behind the headers.
-fn operation_lines<'a, 'b>(lines: &'a [&'b [u8]]) -> &'a [&'b [u8]]
-    requires { 3 ≤ length lines.now }
-    ensures { result.now ≡ drop 3 lines.now }
+fn operation_lines<'a, 'b>(lines: &'a [&'b [u8]], header_lines: usize) -> &'a [&'b [u8]]
+    requires { header_lines ≤ length lines.now }
+    ensures { result.now ≡ drop header_lines lines.now }
 {
-    &lines[3..]
+    &lines[header_lines..]
 }
 
-// The variables so far, and behind them those that the operation lines assign.
+// The variables so far, and behind them those that the operation lines assign, the first of which has this number.
 fn read_operations(
     alloc: Global,
     lines: &[&[u8]],
+    first: u32,
     mut vars: Vec<Var>,
 ) -> Result<Vec<Var>, FileError>
     requires few { length vars.items ≤ 511 }
     requires lines { length lines.now ≤ 1048577 }
+    requires first { first ≤ 5 }
     ensures { MatchResult result
-        (λ v. (length v.items ≤ 511) × GoesOn 4 (variables_of vars.items) (map (λ w. w.now) lines.now) (4 + length lines.now) (variables_of v.items) [])
-        (Refuses (λ line. StopsAt line 4 (variables_of vars.items) (map (λ w. w.now) lines.now))) }
+        (λ v. (length v.items ≤ 511) × GoesOn first (variables_of vars.items) (map (λ w. w.now) lines.now) (first + length lines.now) (variables_of v.items) [])
+        (Refuses (λ line. StopsAt line first (variables_of vars.items) (map (λ w. w.now) lines.now))) }
 {
     for (i, line) in lines.iter().enumerate() {
-        let number = 4 + i as u32;
+        let number = first + i as u32;
         let Some(var) = operation(alloc, &vars, line, number)? else {
             return Err(FileError::NotYet(number));
         };
@@ -86,16 +89,17 @@ fn read_lines(alloc: Global, lines: &[&[u8]]) -> Result<Gadget, FileError>
         (Refuses (λ line. LinesSay (map (λ w. w.now) lines.now) (Err line))) }
 {
     let header = read_header(alloc, lines)?;
-    let shares = share_vars(alloc, header.shares, &header.inputs)?;
-    let vars = read_operations(alloc, operation_lines(lines), shares)?;
+    let start = header_vars(alloc, header.shares, &header.inputs, &header.randoms)?;
+    let first = header.lines as u32 + 1;
+    let vars = read_operations(alloc, operation_lines(lines, header.lines), first, start)?;
     let Some(output_shares) = output_shares(alloc, &vars, header.shares, &header.outputs)? else {
         return Err(FileError::NotYet(lines.len() as u32 + 1));
     };
     Ok(Gadget::new(header, output_shares, vars))
 }
 
-/// The gadget that a file of the linear form says: `#SHARES n`, `#IN a b ..`, `#OUT d ..` and then a line for each copy
-/// `x = a` and each sum `x = a + b`. Otherwise the first line that the form does not allow at its place; where only a line
+/// The gadget that a file of the linear form says: `#SHARES n`, `#IN a b ..`, `#RANDOMS r s ..` where it has randoms,
+/// `#OUT d ..` and then a line for each copy `x = a` and each sum `x = a + b`. Otherwise the first line that the form does not allow at its place; where only a line
 /// or an output share is missing, that is the number of lines and 1. A file has at most a mebibyte. Time is at most the
 /// number of lines times that of variables.
 pub fn read_gadget(alloc: Global, bytes: &[u8]) -> Result<Gadget, FileError>

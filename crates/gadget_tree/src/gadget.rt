@@ -35,20 +35,22 @@ impl Model for Gadget {
 }
 
 impl Gadget {
-    /// A gadget without randoms.
+    /// A gadget of the linear form.
     pub(crate) fn new(header: Header, output_shares: Vec<u16>, vars: Vec<Var>) -> Gadget
-        requires { IsGadget (linear_gadget header.shares header.inputs.items header.outputs.items output_shares.items (variables_of vars.items)) }
-        ensures { result ≡ linear_gadget header.shares header.inputs.items header.outputs.items output_shares.items (variables_of vars.items) }
+        requires { IsGadget (linear_gadget header.shares header.inputs.items (length header.randoms.items) header.outputs.items output_shares.items (variables_of vars.items)) }
+        ensures { result ≡ linear_gadget header.shares header.inputs.items (length header.randoms.items) header.outputs.items output_shares.items (variables_of vars.items) }
     {
         let Header {
             shares,
             inputs,
+            randoms,
             outputs,
+            ..
         } = header;
         Gadget {
             shares,
             inputs,
-            randoms: 0,
+            randoms: randoms.len() as u16,
             outputs,
             output_shares,
             vars,

@@ -1,15 +1,16 @@
-//! The three header lines of a file.
+//! The header lines of a file: `#SHARES`, `#IN`, `#RANDOMS` where there are randoms, and `#OUT`.
 
 ghost use Rattle.std.specs.Prelude.{◌≡◌, ℕ, ◌+◌, ◌≤◌, ◌<◌, IfOk, IsTrue, MatchResult, map, drop, length, All, ◌++◌, ◌↔◌, decimal, Result, Ok, Err};
 ghost use Rattle.std.specs.List.{list_all};
 ghost use Rattle.gadget_model.specs.Circuit.{Circuit};
-ghost use Rattle.gadget_tree.specs.LinearForm.{is_stem, share_names, AreDistinct, IsSharesLine, IsInLine, IsOutLine, AfterOut, LinesSay};
-ghost use Rattle.gadget_tree.specs.Reading.{Reads, IsStemsLine};
+ghost use Rattle.gadget_tree.specs.LinearForm.{is_stem, share_names, AreDistinct, IsSharesLine, IsInLine, IsRandomsLine, IsOutLine, AfterRandoms, AfterIn, LinesSay};
+ghost use Rattle.gadget_tree.specs.Reading.{Reads, IsStemsLine, IsHeader};
 ghost use Rattle.gadget_tree.specs.Refusals.{Refuses};
 
 use crate::file_error::FileError;
 use crate::lines::{is_stem, words};
 use crate::name::Name;
+use crate::randoms::extend_random_names;
 use crate::shares::{are_distinct, extend_share_names};
 use std::alloc::{AllocError, Global};
 
@@ -18,7 +19,10 @@ use std::alloc::{AllocError, Global};
 pub(crate) struct Header {
     pub shares: u8,
     pub inputs: Vec<Name>,
+    pub randoms: Vec<Name>,
     pub outputs: Vec<Name>,
+    /// How many lines the header has.
+    pub lines: usize,
 }
 
 // A number from 1 to 16, written without a leading zero.
@@ -96,17 +100,19 @@ fn stems_line(
     stems_behind(alloc, &words)
 }
 
-// Whether the shares of the inputs and the outputs have different names.
-fn have_distinct_shares(
+// Whether the input shares, the randoms and the output shares have different names.
+fn have_distinct_names(
     alloc: Global,
     shares: u8,
     inputs: &[Name],
+    randoms: &[Name],
     outputs: &[Name],
 ) -> Result<bool, AllocError>
-    ensures { IfOk result (λ b. IsTrue b ↔ AreDistinct (share_names shares inputs.now ++ share_names shares outputs.now)) }
+    ensures { IfOk result (λ b. IsTrue b ↔ AreDistinct (share_names shares inputs.now ++ randoms.now ++ share_names shares outputs.now)) }
 {
     let mut names = Vec::new(alloc);
     extend_share_names(alloc, &mut names, shares, inputs)?;
+    extend_random_names(alloc, &mut names, randoms)?;
     extend_share_names(alloc, &mut names, shares, outputs)?;
     Ok(are_distinct(&names))
 }
@@ -118,10 +124,28 @@ fn in_line(alloc: Global, shares: u8, line: &[u8]) -> Result<Option<Vec<Name>>, 
     let Some(inputs) = stems_line(alloc, b"#IN".as_slice(), 4, line)? else {
         return Ok(None);
     };
-    if !have_distinct_shares(alloc, shares, &inputs, &[])? {
+    if !have_distinct_names(alloc, shares, &inputs, &[], &[])? {
         return Ok(None);
     }
     Ok(Some(inputs))
+}
+
+// What the line `#RANDOMS r s ..` says.
+fn randoms_line(
+    alloc: Global,
+    shares: u8,
+    inputs: &[Name],
+    line: &[u8],
+) -> Result<Option<Vec<Name>>, AllocError>
+    ensures { IfOk result (λ o. Reads (λ v. v.items) (IsRandomsLine shares inputs.now line.now) o) }
+{
+    let Some(randoms) = stems_line(alloc, b"#RANDOMS".as_slice(), 128, line)? else {
+        return Ok(None);
+    };
+    if !have_distinct_names(alloc, shares, inputs, &randoms, &[])? {
+        return Ok(None);
+    }
+    Ok(Some(randoms))
 }
 
 // What the line `#OUT d ..` says.
@@ -129,24 +153,78 @@ fn out_line(
     alloc: Global,
     shares: u8,
     inputs: &[Name],
+    randoms: &[Name],
     line: &[u8],
 ) -> Result<Option<Vec<Name>>, AllocError>
-    ensures { IfOk result (λ o. Reads (λ v. v.items) (IsOutLine shares inputs.now line.now) o) }
+    ensures { IfOk result (λ o. Reads (λ v. v.items) (IsOutLine shares inputs.now randoms.now line.now) o) }
 {
     let Some(outputs) = stems_line(alloc, b"#OUT".as_slice(), 2, line)? else {
         return Ok(None);
     };
-    if !have_distinct_shares(alloc, shares, inputs, &outputs)? {
+    if !have_distinct_names(alloc, shares, inputs, randoms, &outputs)? {
         return Ok(None);
     }
     Ok(Some(outputs))
 }
 
+// The header whose last line stands behind so many, where the randoms are known.
+fn header_with_randoms(
+    alloc: Global,
+    lines: &[&[u8]],
+    before: usize,
+    shares: u8,
+    inputs: Vec<Name>,
+    randoms: Vec<Name>,
+) -> Result<Header, FileError>
+    requires before { before ≤ 3 }
+    requires few_shares { shares ≤ 16 }
+    requires few_inputs { length inputs.items ≤ 4 }
+    requires few_randoms { length randoms.items ≤ 128 }
+    ensures { MatchResult result
+        (IsHeader (AfterRandoms (before + 1) shares inputs.items randoms.items (map (λ w. w.now) (drop before lines.now))) lines.now)
+        (Refuses (λ line. AfterRandoms (before + 1) shares inputs.items randoms.items (map (λ w. w.now) (drop before lines.now)) (Err line))) }
+{
+    if lines.len() <= before {
+        return Err(FileError::NotYet(before as u32 + 1));
+    }
+    let Some(outputs) = out_line(alloc, shares, &inputs, &randoms, lines[before])? else {
+        return Err(FileError::NotYet(before as u32 + 1));
+    };
+    Ok(Header {
+        shares,
+        inputs,
+        randoms,
+        outputs,
+        lines: before + 1,
+    })
+}
+
+// The header, where the inputs are known.
+fn header_with_inputs(
+    alloc: Global,
+    lines: &[&[u8]],
+    shares: u8,
+    inputs: Vec<Name>,
+) -> Result<Header, FileError>
+    requires few_shares { shares ≤ 16 }
+    requires few_inputs { length inputs.items ≤ 4 }
+    ensures { MatchResult result
+        (IsHeader (AfterIn shares inputs.items (map (λ w. w.now) (drop 2 lines.now))) lines.now)
+        (Refuses (λ line. AfterIn shares inputs.items (map (λ w. w.now) (drop 2 lines.now)) (Err line))) }
+{
+    if lines.len() < 3 {
+        return Err(FileError::NotYet(3));
+    }
+    let Some(randoms) = randoms_line(alloc, shares, &inputs, lines[2])? else {
+        return header_with_randoms(alloc, lines, 2, shares, inputs, Vec::new(alloc));
+    };
+    header_with_randoms(alloc, lines, 3, shares, inputs, randoms)
+}
+
 /// What the header lines say, or which of them is not allowed or missing.
 pub(crate) fn read_header(alloc: Global, lines: &[&[u8]]) -> Result<Header, FileError>
     ensures { MatchResult result
-        (λ h. (3 ≤ length lines.now) × (h.shares ≤ 16) × (length h.inputs.items ≤ 4)
-        × ((r : Result Circuit ℕ) → AfterOut h.shares h.inputs.items h.outputs.items (map (λ w. w.now) (drop 3 lines.now)) r → LinesSay (map (λ w. w.now) lines.now) r))
+        (IsHeader (LinesSay (map (λ w. w.now) lines.now)) lines.now)
         (Refuses (λ line. LinesSay (map (λ w. w.now) lines.now) (Err line))) }
 {
     if lines.is_empty() {
@@ -161,15 +239,5 @@ pub(crate) fn read_header(alloc: Global, lines: &[&[u8]]) -> Result<Header, File
     let Some(inputs) = in_line(alloc, shares, lines[1])? else {
         return Err(FileError::NotYet(2));
     };
-    if lines.len() < 3 {
-        return Err(FileError::NotYet(3));
-    }
-    let Some(outputs) = out_line(alloc, shares, &inputs, lines[2])? else {
-        return Err(FileError::NotYet(3));
-    };
-    Ok(Header {
-        shares,
-        inputs,
-        outputs,
-    })
+    header_with_inputs(alloc, lines, shares, inputs)
 }

@@ -8,6 +8,7 @@ mod header;
 mod lines;
 pub mod name;
 mod operation;
+mod randoms;
 mod shares;
 pub mod var;
 

@@ -1,11 +1,11 @@
-use Rattle.std.proofs.Common.{ℕ, List, length, refl, ap, subst, ◌∙◌, arith, inl, Ok}
+use Rattle.std.proofs.Common.{ℕ, ◌+◌, ◌++◌, List, length, refl, ap, subst, ◌∙◌, arith, inl, Ok}
 use Rattle.std.proofs.lemmas.List.{length-map}
-use Rattle.gadget_tree.specs.LinearForm.{AreOutputShares, share_variables, linear_gadget}
+use Rattle.gadget_tree.specs.LinearForm.{AreOutputShares, share_variables, random_variables, linear_gadget}
 use Rattle.gadget_tree.specs.Seen.{variables_of, variable_of}
 use Rattle.gadget_tree.proofs.MadeGadgets.{gadget_from_lines}
 use Rattle.gadget_tree.proofs.NextLines.{reads_some}
 use Rattle.gadget_tree.proofs.OperationLines.{behind_operations}
-use Rattle.gadget_tree.proofs.ShareVariables.{length-share_variables-le}
+use Rattle.gadget_tree.proofs.RandomVariables.{length-header_variables-le}
 use Rattle.gadget_tree.proofs.Texts.{texts}
 use Rattle.gadget_tree.proofs.file.read_lines.Goals as goal
 
@@ -13,12 +13,13 @@ pub read_operations-requires-clause-few : goal.read_operations-requires-clause-f
 read_operations-requires-clause-few c =
     let header = c.in_ok-header.header in
     let h = c.in_ok-header.ensures in
-    let few = h.1 in
-    let few_inputs = h.2 in
-    let e = ap (λ (vs : List _). length vs) c.in_ok-shares.ensures in
-    let l = length-share_variables-le header.shares 0 c.deref.result.now few in
+    let few_inputs = h.few_inputs in
+    let few_randoms = h.few_randoms in
+    let e = ap (λ (vs : List _). length vs) c.in_ok-start.ensures in
+    let l = length-header_variables-le header.shares c.deref.result.now c.deref-2.result.now h.few_shares in
     let v = ap (λ (ns : List (List ℕ)). length ns) c.deref.ensures.value in
-    let m = length-map c.in_ok-shares.shares.items variable_of in
+    let w = ap (λ (ns : List (List ℕ)). length ns) c.deref-2.ensures.value in
+    let m = length-map c.in_ok-start.start.items variable_of in
     omega arith
 
 pub new-requires : goal.new-requires
@@ -26,14 +27,15 @@ new-requires c =
     let header = c.in_ok-header.header in
     let n = header.shares in
     let inputs = header.inputs.items in
+    let randoms = header.randoms.items in
     let outputs = header.outputs.items in
     let vs = variables_of c.in_ok-vars.vars.items in
     let shares = c.in-Some.output_shares.items in
-    let g = linear_gadget n inputs outputs shares vs in
+    let g = linear_gadget n inputs (length randoms) outputs shares vs in
     let ops = c.operation_lines.result.now in
-    let start = c.in_ok-shares.ensures ∙ ap (share_variables n 0) c.deref.ensures.value in
-    let found = reads_some _ (AreOutputShares n c.deref-3.result.now (variables_of c.deref-2.result.now)) _ _ c.in-Some.is c.in_ok-output_shares.ensures in
+    let start = c.in_ok-start.ensures ∙ ap (λ (is : List (List ℕ)). share_variables n 0 is ++ random_variables 0 c.deref-2.result.now) c.deref.ensures.value ∙ ap (λ (rs : List (List ℕ)). share_variables n 0 inputs ++ random_variables 0 rs) c.deref-2.ensures.value in
+    let found = reads_some _ (AreOutputShares n c.deref-4.result.now (variables_of c.deref-3.result.now)) _ _ c.in-Some.is c.in_ok-output_shares.ensures in
     let named : AreOutputShares n outputs vs shares =
-    subst (λ (os : List (List ℕ)). AreOutputShares n os vs shares) c.deref-3.ensures.value (subst (λ us. AreOutputShares n c.deref-3.result.now (variables_of us) shares) c.deref-2.ensures.value found) in
+    subst (λ (os : List (List ℕ)). AreOutputShares n os vs shares) c.deref-4.ensures.value (subst (λ us. AreOutputShares n c.deref-4.result.now (variables_of us) shares) c.deref-3.ensures.value found) in
     gadget_from_lines (texts c.args.lines.now) g
-    (behind_operations c.args.lines.now ops n inputs outputs (variables_of c.in_ok-shares.shares.items) vs c.in_ok-header.ensures.3 start c.operation_lines.ensures c.in_ok-vars.ensures.1 (Ok g) (inl (shares, named, refl)))
+    (behind_operations c.args.lines.now ops (header.lines + 1) header.lines n inputs randoms outputs (variables_of c.in_ok-start.start.items) vs c.in_ok-header.ensures.going start c.operation_lines.ensures c.in_ok-vars.ensures.1 (Ok g) (inl (shares, named, refl)))

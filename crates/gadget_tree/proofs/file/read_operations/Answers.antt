@@ -14,22 +14,22 @@ loop-i-preserved c =
     let ls = c.args.lines.now in
     let vars = c.loop-i.vars.items in
     let var = c.in-Some.var in
-    let said = subst (λ vs. IsOperationLine (4 + i) (variables_of vs) (get_or ls i d).now (variable_of var)) c.deref.ensures.value
-    (reads_some variable_of (IsOperationLine (4 + i) (variables_of c.deref.result.now) (get_or ls i d).now) _ _ c.in-Some.is c.in_ok-var.ensures) in
+    let said = subst (λ vs. IsOperationLine (c.args.first + i) (variables_of vs) (get_or ls i d).now (variable_of var)) c.deref.ensures.value
+    (reads_some variable_of (IsOperationLine (c.args.first + i) (variables_of c.deref.result.now) (get_or ls i d).now) _ _ c.in-Some.is c.in_ok-var.ensures) in
     let few = said.few in
     let n = length-map vars variable_of in
     let m = length_push vars var in
     let e = ap (λ vs. length vs) c.in_ok-push.ensures.items in
     record {
       few = omega arith;
-      going = λ headers inputs outputs r h. c.loop-i.invariant.going headers inputs outputs r
-          (one_line_on (EndOfFile headers inputs outputs r) ls r i (4 + i) (4 + (i + 1)) (variables_of vars) _ d (variable_of var) c.loop-i-test.true (omega arith)
+      going = λ headers inputs randoms outputs r h. c.loop-i.invariant.going headers inputs randoms outputs r
+          (one_line_on (EndOfFile headers inputs randoms outputs r) ls r i (c.args.first + i) (c.args.first + (i + 1)) (variables_of vars) _ d (variable_of var) c.loop-i-test.true (omega arith)
           (ap variables_of c.in_ok-push.ensures.items ∙ variables_of-push vars var) said h);
     }
 
 pub returns : goal.returns
 returns c = (
   c.loop-i.invariant.few,
-  λ n inputs outputs r h. c.loop-i.invariant.going n inputs outputs r
-      (at_the_end (EndOfFile n inputs outputs r) c.args.lines.now r c.loop-i.i (4 + c.loop-i.i) (4 + length c.args.lines.now) (variables_of c.loop-i.vars.items) c.loop-i-test.false (omega arith) h),
+  λ n inputs randoms outputs r h. c.loop-i.invariant.going n inputs randoms outputs r
+      (at_the_end (EndOfFile n inputs randoms outputs r) c.args.lines.now r c.loop-i.i (c.args.first + c.loop-i.i) (c.args.first + length c.args.lines.now) (variables_of c.loop-i.vars.items) c.loop-i-test.false (omega arith) h),
 )
