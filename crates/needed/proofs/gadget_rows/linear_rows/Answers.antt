@@ -14,7 +14,7 @@ row-row-requires-clause-earlier c =
     let g = c.args.gadget.now in
     let good = c.vars-var-items.ensures.gadget in
     let at = node_at c.vars-var-items.result.now g.variables c.loop-var.var-index c.var-item.result c.vars-var-items.ensures.variables c.loop-var-test.true c.var-item.is in
-    NamesEarlier-more g.randoms 128 c.loop-var.var-index (length c.deref.result.now) (node_of c.var-item.result.kind) (let z = good.no_randoms in omega arith)
+    NamesEarlier-more g.randoms 128 c.loop-var.var-index (length c.deref.result.now) (node_of c.var-item.result.kind) good.few_randoms
     (sym c.loop-var.invariant.every ∙ ap (λ (rs : List LinearRow). length rs) (sym c.deref.ensures.value)) (good.in_order c.loop-var.var-index (node_of c.var-item.result.kind) at)
 
 pub row-row-requires-clause-linear : goal.row-row-requires-clause-linear
