@@ -1,8 +1,8 @@
 -- The header lines, one behind the other.
-use Rattle.std.proofs.Common.{◌≡◌, ℕ, ◌<◌, ◌≤◌, ◌+◌, List, [], ◌∷◌, length, get_or, drop, refl, sym, subst, arith, Bor, Option, Some, None, inl, inr, Result, Ok, Err, MatchResult}
-use Rattle.std.proofs.lemmas.List.{drop_more, at_drop_all}
+use Rattle.std.proofs.Common.{◌≡◌, ℕ, ◌≤◌, List, [], ◌∷◌, length, get_or, drop, refl, sym, subst, arith, Bor, Option, Some, None, inl, inr, Result, Ok, Err, MatchResult}
+use Rattle.std.proofs.lemmas.List.{drop_more}
 use Rattle.gadget_model.specs.Circuit.{Circuit}
-use Rattle.gadget_tree.specs.LinearForm.{IsSharesLine, IsInLine, IsRandomsLine, IsOutLine, AfterOut, AfterRandoms, AfterIn, LinesSay}
+use Rattle.gadget_tree.specs.LinearForm.{IsSharesLine, IsInLine, IsRandomsLine, AfterRandoms, AfterIn, LinesSay}
 use Rattle.gadget_tree.specs.Reading.{Reads, IsHeader}
 use Rattle.gadget_tree.specs.Refusals.{Refuses}
 use Rattle.gadget_tree.specs.declared.file_error.FileError.{FileError}
@@ -23,22 +23,8 @@ refused_at_2 [] d n l s none = absurd (omega arith)
 refused_at_2 (x ∷ []) d n l s none = absurd (omega arith)
 refused_at_2 (x ∷ y ∷ ls) d n l s none = inl (n, s, inr (none, refl))
 
--- what is said from a line on that stands in the file
-module _ (ls : List (Bor (List ℕ))) (d : Bor (List ℕ)) (n : ℕ) (inputs randoms : List (List ℕ)) (before : ℕ) (r : Result Circuit ℕ) where
-  pub out_missing : length ls ≤ before → r ≡ Err (before + 1) → AfterRandoms (before + 1) n inputs randoms (texts (drop before ls)) r
-  out_missing l e = subst (λ (rest : List (Bor (List ℕ))). AfterRandoms (before + 1) n inputs randoms (texts rest) r) (sym (at_drop_all (λ (rest : List (Bor (List ℕ))). rest) ls before l)) e
-
-  pub out_refused : before < length ls → ((outputs : List (List ℕ)) → IsOutLine n inputs randoms (get_or ls before d).now outputs → ⊥) → r ≡ Err (before + 1) → AfterRandoms (before + 1) n inputs randoms (texts (drop before ls)) r
-  out_refused l none e = subst (λ rest. AfterRandoms (before + 1) n inputs randoms (texts rest) r) (sym (drop_more ls before d l)) (inr (none, e))
-
-  pub out_read : (outputs : List (List ℕ)) → before < length ls → IsOutLine n inputs randoms (get_or ls before d).now outputs
-      → AfterOut (before + 1 + 1) n inputs randoms outputs (texts (drop (before + 1) ls)) r → AfterRandoms (before + 1) n inputs randoms (texts (drop before ls)) r
-  out_read outputs l o h = subst (λ rest. AfterRandoms (before + 1) n inputs randoms (texts rest) r) (sym (drop_more ls before d l)) (inl (outputs, o, h))
-
+-- from line 3 on
 module _ (ls : List (Bor (List ℕ))) (d : Bor (List ℕ)) (n : ℕ) (inputs : List (List ℕ)) (r : Result Circuit ℕ) where
-  pub with_randoms : (randoms : List (List ℕ)) → 3 ≤ length ls → IsRandomsLine n inputs (get_or ls 2 d).now randoms → AfterRandoms 4 n inputs randoms (texts (drop 3 ls)) r → AfterIn n inputs (texts (drop 2 ls)) r
-  with_randoms randoms l is h = subst (λ rest. AfterIn n inputs (texts rest) r) (sym (drop_more ls 2 d (omega arith))) (inl (randoms, is, h))
-
   pub without_randoms : 3 ≤ length ls → ((randoms : List (List ℕ)) → IsRandomsLine n inputs (get_or ls 2 d).now randoms → ⊥) → AfterRandoms 3 n inputs [] (texts (drop 2 ls)) r → AfterIn n inputs (texts (drop 2 ls)) r
   without_randoms l none h =
       let e = drop_more ls 2 d (omega arith) in
@@ -52,7 +38,7 @@ module _ (ls : List (Bor (List ℕ))) (d : Bor (List ℕ)) (n : ℕ) (inputs : L
       go (x ∷ []) l s i h = absurd (omega arith)
       go (x ∷ y ∷ ls) l s i h = inl (n, s, inl (inputs, i, h))
 
--- a header is one of a longer text
+-- what is said of lines, where what is said from a later one on implies it
 pub header_of : (P Q : Result Circuit ℕ → Type 0) (lines : List (Bor (List ℕ))) (found : Result Header FileError) → ((r : Result Circuit ℕ) → P r → Q r)
     → MatchResult found (IsHeader P lines) (Refuses (λ line. P (Err line))) → MatchResult found (IsHeader Q lines) (Refuses (λ line. Q (Err line)))
 header_of P Q lines (Ok h) more is = record {

@@ -60,4 +60,4 @@ pub record IsHeader (Says : Result Circuit ℕ → Type 0) (lines : List (Bor (L
   pub few_lines : h.lines ≤ 4
   pub within : h.lines ≤ length lines
   pub going : (r : Result Circuit ℕ)
-    → AfterOut (h.lines + 1) h.shares h.inputs.items h.randoms.items h.outputs.items (map (λ w. w.now) (drop h.lines lines)) r → Says r
+      → AfterOut (h.lines + 1) h.shares h.inputs.items h.randoms.items h.outputs.items (map (λ w. w.now) (drop h.lines lines)) r → Says r

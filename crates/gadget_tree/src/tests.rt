@@ -78,7 +78,13 @@ fn reads_randoms(rt: HostRuntime) -> Result<(), Fail> {
     assert_eq!(rt; gadget.randoms(), 1);
     let vars = gadget.vars();
     assert_eq!(rt; vars.len(), 5);
-    let kinds = [vars[0].kind, vars[1].kind, vars[2].kind, vars[3].kind, vars[4].kind];
+    let kinds = [
+        vars[0].kind,
+        vars[1].kind,
+        vars[2].kind,
+        vars[3].kind,
+        vars[4].kind,
+    ];
     assert_eq!(rt;
         kinds,
         [
@@ -89,7 +95,13 @@ fn reads_randoms(rt: HostRuntime) -> Result<(), Fail> {
             VarKind::Sum(1, 2),
         ]
     );
-    let lines = [vars[0].line, vars[1].line, vars[2].line, vars[3].line, vars[4].line];
+    let lines = [
+        vars[0].line,
+        vars[1].line,
+        vars[2].line,
+        vars[3].line,
+        vars[4].line,
+    ];
     assert_eq!(rt; lines, [2, 2, 3, 5, 6]);
     assert_eq!(rt; vars[0].name.bytes(), b"a0".as_slice());
     assert_eq!(rt; vars[1].name.bytes(), b"a1".as_slice());
