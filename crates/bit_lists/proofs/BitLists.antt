@@ -1,5 +1,5 @@
 -- The laws of sums of lists of bits: they form a group, and the sum that a choice takes is linear in the choice and in the values.
-use Rattle.std.proofs.Common.{◌≡◌, Bool, true, false, ◌&&◌, List, [], ◌∷◌, length, refl, ap, sym, ◌∙◌, inl, inr, ◌⊎◌, arith}
+use Rattle.std.proofs.Common.{◌≡◌, Bool, true, false, ◌&&◌, ℕ, zero, suc, List, [], ◌∷◌, ◌++◌, length, refl, ap, sym, ◌∙◌, inl, inr, ◌⊎◌, arith}
 use Rattle.gadget_model.specs.Bits.{add}
 use Rattle.gadget_model.proofs.Sums.{add-false, add-same, add-comm, add-assoc, add-middle, and-add_left}
 use Rattle.bit_lists.specs.BitLists.{add_bits, chosen_sum}
@@ -76,3 +76,12 @@ tell_apart (false ∷ vs) (false ∷ ws) e = elim (tell_apart vs ws (omega arith
   | inl h ↦ inl (ap (λ (z : List Bool). false ∷ z) h)
   | inr h ↦ inr (false ∷ h.0, h.1)
 ]
+
+-- a choice of one more row is one of n rows and a last place
+pub split_last : (n : ℕ) (c : List Bool) → length c ≡ suc n → (e : List Bool) × (b : Bool) × (c ≡ e ++ b ∷ []) × (length e ≡ n)
+split_last n [] l = absurd (omega arith)
+split_last zero (b ∷ []) l = ([], b, refl, refl)
+split_last zero (b ∷ a ∷ c) l = absurd (omega arith)
+split_last (suc n) (b ∷ c) l =
+    let r = split_last n c (omega arith) in
+    (b ∷ r.0, r.1, ap (λ (z : List Bool). b ∷ z) r.2, ap suc r.3)

@@ -1,1 +1,3 @@
 pub mod BitLists
+pub mod NumberBits
+pub mod SetSums

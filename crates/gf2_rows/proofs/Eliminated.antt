@@ -1,5 +1,5 @@
 -- The invariant of elimination, and that each row keeps it: a row becomes one pivot or one mask.
-use Rattle.std.proofs.Common.{◌≡◌, ℕ, zero, suc, ◌+◌, ◌^◌, ◌<◌, ◌≤◌, Bool, true, false, cond, eqb, List, [], ◌∷◌, ◌++◌, map, length, take, get_or, refl, ap, sym, ◌∙◌, inl, inr, arith, subst}
+use Rattle.std.proofs.Common.{◌≡◌, ℕ, suc, ◌+◌, ◌^◌, ◌<◌, ◌≤◌, Bool, true, false, cond, eqb, List, [], ◌∷◌, ◌++◌, map, length, take, get_or, refl, ap, sym, ◌∙◌, inl, inr, arith, subst}
 use Rattle.std.specs.Prelude.{bit_xor}
 use Rattle.std.specs.List.{All}
 use Rattle.std.specs.Int.{bit_at, trailing_zeros}
@@ -16,7 +16,9 @@ use Rattle.gf2_rows.specs.declared.pivot_list.Combination.{Combination}
 use Rattle.gf2_rows.specs.declared.pivot_list.Pivot.{Pivot}
 use Rattle.gf2_rows.specs.Combinations.{combine, choice_of, masked_sum, takes_any, Cancels, AreIndependent, SpanCancelling}
 use Rattle.gf2_rows.specs.Reduction.{reduced_by}
-use Rattle.gf2_rows.proofs.Combinations.{xor-cancel, xor-swap_last, xor-below_top, bit_at-xor_zero, top_bit, bit_at-top, takes_any-choice_of, combine-none, combine-push, combine-below, combine-nil, masked_sum-xor, masked_sum-combine, masked_sum-push, masked_sum-push_below}
+use Rattle.bit_lists.proofs.BitLists.{split_last}
+use Rattle.bit_lists.proofs.NumberBits.{bit_at-xor_zero}
+use Rattle.gf2_rows.proofs.Combinations.{xor-cancel, xor-swap_last, xor-below_top, top_bit, bit_at-top, takes_any-choice_of, combine-none, combine-push, combine-below, combine-nil, masked_sum-xor, masked_sum-combine, masked_sum-push, masked_sum-push_below}
 use Rattle.gf2_rows.proofs.Reduction.{totals_of, masks_of, IsEchelon, IsReduction, IsClear, reduced_by-is_reduction, reduced_by-clear, IsEchelon-independent, IsEchelon-push}
 
 -- the combination is one of the rows, with their sum
@@ -153,14 +155,6 @@ IsNewest-reduced rows ps r c h s =
     }
 
 -- a row that becomes a mask
-
-split_last : (n : ℕ) (c : List Bool) → length c ≡ suc n → (e : List Bool) × (b : Bool) × (c ≡ e ++ b ∷ []) × (length e ≡ n)
-split_last n [] l = absurd (omega arith)
-split_last zero (b ∷ []) l = ([], b, refl, refl)
-split_last zero (b ∷ a ∷ c) l = absurd (omega arith)
-split_last (suc n) (b ∷ c) l =
-    let r = split_last n c (omega arith) in
-    (b ∷ r.0, r.1, ap (λ (z : List Bool). b ∷ z) r.2, ap suc r.3)
 
 takes_any-push : (n : ℕ) (masks : List ℕ) (mask : ℕ) → All (λ m. m < 2 ^ n) masks → bit_at mask n ≡ 1 → AreIndependent masks →
     (e : List Bool) (b : Bool) → length e ≡ length masks → bit_xor (combine e masks) (cond b mask 0) ≡ 0 → takes_any (e ++ b ∷ []) ≡ false

@@ -11,7 +11,7 @@ use Rattle.gf2_rows.specs.declared.pivot_list.Combination.{Combination}
 use Rattle.gf2_rows.specs.declared.pivot_list.Pivot.{Pivot}
 use Rattle.gf2_rows.specs.Combinations.{combine, takes_any}
 use Rattle.gf2_rows.specs.Reduction.{plus, reduced_by}
-use Rattle.gf2_rows.proofs.Combinations.{bit_cases, bit_at-xor_zero, bit_at-xor_ones}
+use Rattle.bit_lists.proofs.NumberBits.{bit_cases, bit_at-xor_zero, bit_at-xor_ones}
 
 abbrev pub totals_of : List Pivot → List ℕ
 totals_of ps = map (λ p. p.row.total) ps
