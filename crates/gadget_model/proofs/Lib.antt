@@ -4,3 +4,8 @@ pub mod Sums
 pub mod Distributions
 pub mod Projections
 pub mod Simulations
+pub mod Polynomials
+pub mod SumsOver
+pub mod WirePolynomials
+pub mod PolynomialValues
+pub mod AllAssignments

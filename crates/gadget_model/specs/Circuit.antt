@@ -1,6 +1,6 @@
 -- A gadget as plain data, a masked circuit over GF(2) written flat, and the values on its wires
 -- (Ishai, Sahai and Wagner, CRYPTO 2003).
-use Rattle.std.specs.Prelude.{◌≡◌, ℕ, ◌<◌, Bool, false, ◌&&◌, List, [], ◌∷◌, ◌++◌, map, slice_index_or, Some, slice_get}
+use Rattle.std.specs.Prelude.{◌≡◌, ℕ, ◌<◌, Bool, false, ◌&&◌, List, [], ◌∷◌, ◌++◌, map, length, slice_index_or, Some, slice_get}
 use Rattle.gadget_model.specs.Bits.{add}
 
 -- How a variable gets its value: it is an input share, a random, a copy of a variable, or a sum or a product of two.
@@ -39,14 +39,15 @@ value_of x r earlier (copy a) = earlier a
 value_of x r earlier (sum_of a b) = add (earlier a) (earlier b)
 value_of x r earlier (product_of a b) = earlier a && earlier b
 
--- the values that are there already, and behind them those of further nodes, in order
-abbrev pub values_from : (ℕ → Bool) → List Bool → List Bool → List Node → List Bool
-values_from x r done [] = done
-values_from x r done (v ∷ vs) = values_from x r (done ++ value_of x r (λ k. slice_index_or done k false) v ∷ []) vs
+-- What is computed of the wires one after the other: what there is already, and behind it what each further node gives, from
+-- what the earlier wires have and from its own number. A wire that isn't there has `none`.
+abbrev pub wires_from : {A : Type 0} → A → ((ℕ → A) → ℕ → Node → A) → List A → List Node → List A
+wires_from none give done [] = done
+wires_from none give done (v ∷ vs) = wires_from none give (done ++ give (λ k. slice_index_or done k none) (length done) v ∷ []) vs
 
 -- the value of a wire
 unfoldable pub value : Circuit → (ℕ → Bool) → List Bool → ℕ → Bool
-value g x r v = slice_index_or (values_from x r [] (nodes g)) v false
+value g x r v = slice_index_or (wires_from false (λ earlier number node. value_of x r earlier node) [] (nodes g)) v false
 
 -- what a node names is there: operands are among the n earlier variables, a random is one of the gadget's
 abbrev pub NamesEarlier : ℕ → ℕ → Node → Type 0
