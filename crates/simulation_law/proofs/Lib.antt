@@ -3,3 +3,7 @@ pub mod Choices
 pub mod Linear
 pub mod Reached
 pub mod Elimination
+pub mod SetProducts
+pub mod Dependence
+pub mod Chosen
+pub mod Products

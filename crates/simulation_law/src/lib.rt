@@ -1,10 +1,12 @@
-//! When values with added randoms can be simulated from some input shares: the law of elimination.
+//! When values with added randoms can be simulated from some input shares: the law of elimination,
+//! and the law of products for what is left of the values.
 #![tactic(auto)]
 
-ghost use Rattle.std.specs.Prelude.{◌≡◌, ◌↔◌, ℕ, Bool, List, length};
+ghost use Rattle.std.specs.Prelude.{◌≡◌, ◌≢◌, ◌↔◌, ◌<◌, ◌^◌, ℕ, Bool, true, false, List, length, map, slice_index_or, All, AllPairs};
 ghost use Rattle.bit_lists.specs.BitLists.{chosen_sum};
 ghost use Rattle.gadget_model.specs.Circuit.{Circuit};
-ghost use Rattle.gadget_model.specs.Simulation.{IsSimulatable};
+ghost use Rattle.gadget_model.specs.Polynomials.{set_product};
+ghost use Rattle.gadget_model.specs.Simulation.{IsSimulatable, IsWithin};
 ghost use Rattle.simulation_law.specs.Linear.{IsLinear, RandomsCancel, linear_distribution};
 ghost use Rattle.simulation_law.specs.Elimination.{IsSimulatableFrom, IsFunctionOf, HasAdditiveRandoms};
 
@@ -26,4 +28,13 @@ pub fn circuit_law()
         HasAdditiveRandoms g probes f M →
         IsSimulatable g probes set
         ↔ ((choice : List Bool) → length choice ≡ length probes → RandomsCancel g.randoms M choice → IsFunctionOf (λ x. chosen_sum choice (f x)) set) }
+{}
+
+/// A sum of different products of input shares is a function of the shares in a set exactly where
+/// each of the products has its shares in the set.
+pub fn products_law()
+    ensures { (products : List ℕ) (choice : List Bool) (set : ℕ) →
+        AllPairs (λ p q. p ≢ q) products → All (λ p. p < 2 ^ 64) products → length choice ≡ length products →
+        IsFunctionOf (λ x. chosen_sum choice (map (λ p. set_product 64 p x) products)) set
+        ↔ ((j : ℕ) → j < length products → slice_index_or choice j false ≡ true → IsWithin (slice_index_or products j 0) set) }
 {}
