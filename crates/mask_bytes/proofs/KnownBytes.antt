@@ -7,6 +7,10 @@ pub prepend_known-prepend_known : (xs ys : List ℕ) (known : Option (List ℕ))
 prepend_known-prepend_known xs ys None = refl
 prepend_known-prepend_known xs ys (Some zs) = ap (λ (bytes : List ℕ). Some bytes) (sym (append_assoc xs ys zs))
 
+-- a piece of the list that comes behind the bytes before it
+pub prepend_known_more : (known middle after : Option (List ℕ)) (xs ys : List ℕ) → known ≡ prepend_known xs middle → middle ≡ prepend_known ys after → known ≡ prepend_known (xs ++ ys) after
+prepend_known_more known middle after xs ys h k = h ∙ ap (prepend_known xs) k ∙ prepend_known-prepend_known xs ys after
+
 pub append_known-append_known : (known : Option (List ℕ)) (xs ys : List ℕ) → append_known (append_known known xs) ys ≡ append_known known (xs ++ ys)
 append_known-append_known None xs ys = refl
 append_known-append_known (Some zs) xs ys = ap (λ (bytes : List ℕ). Some bytes) (append_assoc zs xs ys)

@@ -2,8 +2,9 @@
 //! writes.
 //!
 //! A `Source` and a `Sink` count their faults, so that a caller can tell a failure that an object
-//! had from one that code above made up. Objects in memory tell their bytes, and contracts say what
-//! became of these; objects over std's readers and writers tell none.
+//! had from one that code above made up, or kept silent of. Objects in memory tell their bytes, and
+//! contracts say what became of these; objects over std's readers and writers tell none, and pass
+//! on what std's contracts tell.
 #![tactic(auto)]
 
 mod error;

@@ -1,5 +1,5 @@
 //! Where bytes come from.
-ghost use Rattle.std.specs.Prelude.{◌≡◌, ◌↔◌, ℕ, ◌<◌, ◌≤◌, List, [], length, take, Option, IfOk, IfSome, OnErr};
+ghost use Rattle.std.specs.Prelude.{◌≡◌, ◌↔◌, ℕ, ◌<◌, ◌≤◌, List, [], length, take, Option, IfOk, IfSome, OnOk, OnErr};
 ghost use Rattle.std.specs.Io.KnownBytes.{prepend_known};
 ghost use Rattle.mask_bytes.specs.Counts.{Rose};
 
@@ -8,7 +8,7 @@ use crate::error::Failed;
 /// A place to read bytes from, up to its end.
 ///
 /// `left` are the bytes not yet read, where the source tells them; whether it does never changes.
-/// `faults` is a count that rises at each failure, and never falls.
+/// `faults` is a count that rises at each failure, stays where a call succeeds, and never falls.
 pub trait Source {
     ghost left: { Self → Option (List ℕ) };
 
@@ -26,8 +26,10 @@ pub trait Source {
         ensures end { IfOk result
             (λ count. IfSome (left self.old) (λ bytes. (count ≡ 0) ↔ (bytes ≡ []))) }
 
-        // A failure takes nothing, and is counted.
+        // A failure takes nothing, and is counted. Where a call succeeds, the count stays, so that no
+        // call may fail, try again and keep silent of it.
         ensures unchanged { OnErr result (left self.new ≡ left self.old) }
         ensures fault { OnErr result (Rose (faults self.old) (faults self.new)) }
+        ensures counted { OnOk result (faults self.new ≡ faults self.old) }
         ensures never_falls { faults self.old ≤ faults self.new };
 }

@@ -1,5 +1,5 @@
 //! Whole reads and whole writes.
-ghost use Rattle.std.specs.Prelude.{◌≡◌, ◌+◌, ◌≤◌, [], length, vec_len, IfOk, IfSome, OnOk, OnErr, IsOk};
+ghost use Rattle.std.specs.Prelude.{◌≡◌, ◌≢◌, ◌+◌, ◌≤◌, [], length, vec_len, IfOk, IfErr, IfSome, OnOk, OnErr, IsOk};
 ghost use Rattle.std.specs.Io.KnownBytes.{append_known, IsAtEnd};
 ghost use Rattle.mask_bytes.specs.Counts.{Rose};
 ghost use Rattle.mask_bytes.specs.Flow.{LeavesSuffix, LosesCount, LosesAtMost, IsLonger, AppendsProperPrefix};
@@ -26,7 +26,13 @@ pub fn read_whole<S: Source>(
     ensures end { OnOk result (IsAtEnd (S.left source.new)) }
     ensures short { IfOk result (λ bytes. vec_len bytes ≤ max) }
 
-    // When each error comes. Of these two only `TooLong` has read past `max`, by one byte.
+    // Without a fault of reading the count stays.
+    ensures counted { OnOk result (S.faults source.new ≡ S.faults source.old) }
+    ensures unfaulted { IfErr result (λ error. error ≢ ReadError.ReadFault
+        → S.faults source.new ≡ S.faults source.old) }
+
+    // When each error comes. `ReadFault` has read nothing past `max`, `TooLong` one byte past it, and
+    // `OutOfMemory` one byte at most.
     ensures fault { result ≡ Err ReadError.ReadFault
         → Rose (S.faults source.old) (S.faults source.new) }
     ensures within { result ≡ Err ReadError.ReadFault
@@ -34,6 +40,8 @@ pub fn read_whole<S: Source>(
     ensures long { result ≡ Err ReadError.TooLong → IsLonger (S.left source.old) max }
     ensures one_more { result ≡ Err ReadError.TooLong
         → LosesCount (S.left source.old) (S.left source.new) (max + 1) }
+    ensures one_more_at_most { result ≡ Err ReadError.OutOfMemory
+        → LosesAtMost (S.left source.old) (S.left source.new) (max + 1) }
 
     // What becomes of the source, whatever the result.
     ensures rest { LeavesSuffix (S.left source.old) (S.left source.new) }
@@ -59,6 +67,7 @@ pub fn write_whole<K: Sink>(sink: &mut K, bytes: &[u8]) -> Result<(), Failed>
     ensures prefix { OnErr result
         (AppendsProperPrefix (K.written sink.old) (K.written sink.new) bytes.now) }
     ensures fault { OnErr result (Rose (K.faults sink.old) (K.faults sink.new)) }
+    ensures counted { OnOk result (K.faults sink.new ≡ K.faults sink.old) }
     ensures never_falls { K.faults sink.old ≤ K.faults sink.new }
 
     // Without bytes the sink isn't called.

@@ -6,7 +6,7 @@ abbrev pub invariant-loop-buf : goal.invariant-loop-buf
 invariant-loop-buf g l = record {
   taken : g.S.Source.left l.fn.source ≡ prepend_known l.bytes.items (g.S.Source.left l.source);
   within : vec_len l.bytes ≤ l.max + 1;
-  never_falls : g.S.Source.faults l.fn.source ≤ g.S.Source.faults l.source;
+  counted : g.S.Source.faults l.source ≡ g.S.Source.faults l.fn.source;
 }
 
 abbrev pub decreases-loop-buf : goal.decreases-loop-buf

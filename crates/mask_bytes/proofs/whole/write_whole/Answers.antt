@@ -15,6 +15,6 @@ loop-done-preserved g c =
     record {
       within = omega (arith, write.bound, length-drop done bytes);
       appended = write.appended ∙ ap (λ (rest : List ℕ). append_known middle (take count rest)) (take_rest bytes done) ∙ append_known_more (g.K.Sink.written c.args.sink.now) middle bytes done count before.appended;
-      never_falls = omega (arith, before.never_falls, write.never_falls);
+      counted = write.counted ∙ before.counted;
       untouched = λ none. let empty : length bytes ≡ 0 = ap length none in absurd (omega arith);
     }

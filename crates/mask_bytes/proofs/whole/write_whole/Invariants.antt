@@ -6,7 +6,7 @@ abbrev pub invariant-loop-done : goal.invariant-loop-done
 invariant-loop-done g l = record {
   within : l.done ≤ length l.bytes;
   appended : g.K.Sink.written l.sink ≡ append_known (g.K.Sink.written l.fn.sink) (take l.done l.bytes);
-  never_falls : g.K.Sink.faults l.fn.sink ≤ g.K.Sink.faults l.sink;
+  counted : g.K.Sink.faults l.sink ≡ g.K.Sink.faults l.fn.sink;
   untouched : l.bytes ≡ [] → l.sink ≡ l.fn.sink;
 }
 
