@@ -2,7 +2,7 @@
 use Rattle.std.proofs.Common.{◌≡◌, ◌≢◌, ℕ, ◌≤◌, ◌+◌, ◌++◌, List, [], ◌∷◌, length, get_or, drop, ap, sym, ◌∙◌, arith, Bor, Option, Some, None}
 use Rattle.std.specs.Prelude.{All, IsTrue, codes, decimal}
 use Rattle.std.proofs.lemmas.List.{length-map}
-use Rattle.gadget_tree.specs.LinearForm.{words_of, is_stem, share_names, AreDistinct, IsSharesLine, IsOutLine}
+use Rattle.gadget_tree.specs.FlatForm.{words_of, is_stem, share_names, AreDistinct, IsSharesLine, IsOutLine}
 use Rattle.gadget_tree.specs.Reading.{Reads, IsStemsLine}
 use Rattle.gadget_tree.proofs.Lists.{AllPairs-append_left}
 use Rattle.gadget_tree.proofs.Texts.{texts, first_item}

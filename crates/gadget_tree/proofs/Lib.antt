@@ -4,6 +4,7 @@ pub mod Lists
 pub mod MadeGadgets
 pub mod NamesOf
 pub mod NextLines
+pub mod OneOutput
 pub mod OneReading
 pub mod OperationLines
 pub mod Operations
@@ -11,5 +12,6 @@ pub mod Prefixes
 pub mod Pushes
 pub mod RandomVariables
 pub mod ShareVariables
+pub mod SharesBelow
 pub mod Texts
 pub mod Variables

@@ -4,23 +4,23 @@ use Rattle.std.proofs.lemmas.List.{get_or_default}
 use Rattle.std.proofs.lemmas.Option.{slice_get_within, get_or_from_slice_get}
 use Rattle.std.proofs.lemmas.Slice.Zip.{AllZip-long}
 use Rattle.gadget_model.specs.Circuit.{Node, share, random, copy, sum_of, product_of, Variable, Circuit, NamesEarlier}
-use Rattle.gadget_tree.specs.Gadgets.{IsLinearNode, IsGadget}
-use Rattle.gadget_tree.specs.LinearForm.{share_names, share_variables, random_variables, IsNamed, AreOutputShares, linear_gadget, IsSharesLine, IsInLine, IsOutLine, OperationLines, EndOfFile, AfterRandoms, AfterIn, AfterShares, LinesSay}
+use Rattle.gadget_tree.specs.Gadgets.{IsNumberedNode, IsGadget}
+use Rattle.gadget_tree.specs.FlatForm.{share_names, share_variables, random_variables, IsNamed, AreOutputShares, flat_gadget, IsSharesLine, IsInLine, IsOutLine, OperationLines, EndOfFile, AfterRandoms, AfterIn, AfterShares, LinesSay}
 use Rattle.gadget_tree.proofs.Lists.{AllPairs-append_right}
 use Rattle.gadget_tree.proofs.HeaderLines.{header_names-distinct}
 use Rattle.gadget_tree.proofs.NamesOf.{named_item, named_apart}
 use Rattle.gadget_tree.proofs.Prefixes.{IsPrefix, nodes_of, prefix_start, prefix_more}
 use Rattle.gadget_tree.proofs.ShareVariables.{length-share_names}
 
-linear_same : (n : ℕ) (inputs : List (List ℕ)) (randoms : ℕ) (outputs : List (List ℕ)) (shares : List ℕ) (vs : List Variable) (node : Node) → IsLinearNode (linear_gadget n inputs randoms [] [] []) node → IsLinearNode (linear_gadget n inputs randoms outputs shares vs) node
-linear_same n inputs randoms outputs shares vs (share k) h = h
-linear_same n inputs randoms outputs shares vs (random k) h = h
-linear_same n inputs randoms outputs shares vs (copy a) h = h
-linear_same n inputs randoms outputs shares vs (sum_of a b) h = h
-linear_same n inputs randoms outputs shares vs (product_of a b) h = h
+numbered_same : (n : ℕ) (inputs : List (List ℕ)) (randoms : ℕ) (outputs : List (List ℕ)) (shares : List ℕ) (vs : List Variable) (node : Node) → IsNumberedNode (flat_gadget n inputs randoms [] [] []) node → IsNumberedNode (flat_gadget n inputs randoms outputs shares vs) node
+numbered_same n inputs randoms outputs shares vs (share k) h = h
+numbered_same n inputs randoms outputs shares vs (random k) h = h
+numbered_same n inputs randoms outputs shares vs (copy a) h = h
+numbered_same n inputs randoms outputs shares vs (sum_of a b) h = h
+numbered_same n inputs randoms outputs shares vs (product_of a b) h = h
 
 module _ (n : ℕ) (inputs randoms outputs : List (List ℕ)) (line_1 line_2 line_3 : List ℕ) (s : IsSharesLine line_1 n) (i : IsInLine n line_2 inputs) (few : length randoms ≤ 128) (o : IsOutLine n inputs randoms line_3 outputs) where
-  made : (vs : List Variable) (shares : List ℕ) → IsPrefix n inputs (length randoms) vs → AreOutputShares n outputs vs shares → IsGadget (linear_gadget n inputs (length randoms) outputs shares vs)
+  made : (vs : List Variable) (shares : List ℕ) → IsPrefix n inputs (length randoms) vs → AreOutputShares n outputs vs shares → IsGadget (flat_gadget n inputs (length randoms) outputs shares vs)
   made vs shares p h =
       let names = share_names n outputs in
       let long = AllZip-long (IsNamed vs) names shares h in
@@ -35,7 +35,7 @@ module _ (n : ℕ) (inputs randoms outputs : List (List ℕ)) (line_1 line_2 lin
         few_variables = p.few;
         distinct_names = p.distinct;
         in_order = λ k node e. subst (NamesEarlier (length randoms) k) (get_or_from_slice_get (nodes_of vs) k node node e) (p.each k node (slice_get_within (nodes_of vs) k node e)).0;
-        linear = λ k d l. linear_same n inputs (length randoms) outputs shares vs (get_or (nodes_of vs) k d) (p.each k d l).1;
+        shares_numbered = λ k d l. numbered_same n inputs (length randoms) outputs shares vs (get_or (nodes_of vs) k d) (p.each k d l).1;
         all_outputs = long ∙ length-share_names n outputs;
         outputs_exist = λ k d l. subst (λ v. v < length vs) (get_or_default shares k 0 d l) (named_item vs names shares k [] h (omega arith)).0;
         distinct_outputs = named_apart vs names shares (AllPairs-append_right (λ a b. a ≢ b) (share_names n inputs ++ randoms) names o.distinct) h (sym long);
@@ -44,7 +44,7 @@ module _ (n : ℕ) (inputs randoms outputs : List (List ℕ)) (line_1 line_2 lin
   pub gadget_from_operations : (g : Circuit) (lines : List (List ℕ)) (number : ℕ) (vs : List Variable) → IsPrefix n inputs (length randoms) vs → OperationLines (EndOfFile n inputs (length randoms) outputs (Ok g)) number vs lines (Ok g) → IsGadget g
   gadget_from_operations g [] number vs p (inl t) =
       let e = t.2 in
-      let same : g ≡ linear_gadget n inputs (length randoms) outputs t.0 vs = cc in
+      let same : g ≡ flat_gadget n inputs (length randoms) outputs t.0 vs = cc in
       subst IsGadget (sym same) (made vs t.0 p t.1)
   gadget_from_operations g [] number vs p (inr t) = let e = t.1 in absurd (cc)
   gadget_from_operations g (line ∷ lines) number vs p (inl t) = gadget_from_operations g lines (number + 1) (vs ++ t.0 ∷ []) (prefix_more n inputs (length randoms) number vs line t.0 p t.1) t.2

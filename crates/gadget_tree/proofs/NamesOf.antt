@@ -4,7 +4,7 @@ use Rattle.std.specs.Prelude.{AllPairs}
 use Rattle.std.specs.List.{AllZip}
 use Rattle.std.proofs.lemmas.List.{get_or_default}
 use Rattle.gadget_model.specs.Circuit.{Variable}
-use Rattle.gadget_tree.specs.LinearForm.{names_of, name_at, IsNamed, AreDistinct}
+use Rattle.gadget_tree.specs.FlatForm.{names_of, name_at, IsNamed, AreDistinct}
 use Rattle.gadget_tree.proofs.Lists.{place_of_item}
 use Rattle.gadget_tree.proofs.Variables.{length-names_of}
 

@@ -2,11 +2,11 @@
 use Rattle.std.proofs.Common.{◌≡◌, ℕ, ◌≤◌, List, [], ◌∷◌, length, get_or, drop, refl, sym, subst, arith, Bor, Option, Some, None, inl, inr, Result, Ok, Err, MatchResult}
 use Rattle.std.proofs.lemmas.List.{drop_more}
 use Rattle.gadget_model.specs.Circuit.{Circuit}
-use Rattle.gadget_tree.specs.LinearForm.{IsSharesLine, IsInLine, IsRandomsLine, AfterRandoms, AfterIn, LinesSay}
+use Rattle.gadget_tree.specs.FlatForm.{IsSharesLine, IsInLine, IsRandomsLine, AfterRandoms, AfterIn, LinesSay}
 use Rattle.gadget_tree.specs.Reading.{Reads, IsHeader}
 use Rattle.gadget_tree.specs.Refusals.{Refuses}
 use Rattle.gadget_tree.specs.declared.file_error.FileError.{FileError}
-use Rattle.gadget_tree.specs.declared.file_error.FileError.TheVariants.{NotYet, OutOfMemory}
+use Rattle.gadget_tree.specs.declared.file_error.FileError.TheVariants.{Syntax, OutOfMemory}
 use Rattle.gadget_tree.specs.declared.header.Header.{Header}
 use Rattle.gadget_tree.proofs.Texts.{texts}
 
@@ -49,5 +49,5 @@ header_of P Q lines (Ok h) more is = record {
   within = is.within;
   going = λ r a. more r (is.going r a);
 }
-header_of P Q lines (Err (NotYet line)) more is = more (Err line) is
+header_of P Q lines (Err (Syntax line)) more is = more (Err line) is
 header_of P Q lines (Err OutOfMemory) more is = tt

@@ -1,9 +1,9 @@
 -- A file says one thing at most.
-use Rattle.std.proofs.Common.{◌≡◌, ℕ, ◌<◌, ◌+◌, ◌++◌, List, [], ◌∷◌, length, refl, ap, sym, subst, ◌∙◌, arith, inl, inr, Result, Ok}
+use Rattle.std.proofs.Common.{◌≡◌, ℕ, ◌<◌, ◌+◌, ◌++◌, List, [], ◌∷◌, length, get_or, refl, ap, sym, subst, ◌∙◌, arith, inl, inr, Result, Ok}
 use Rattle.std.specs.Prelude.{decimal}
 use Rattle.std.proofs.lemmas.Fmt.{decimal_injective}
 use Rattle.gadget_model.specs.Circuit.{Node, share, random, copy, sum_of, product_of, Variable, Circuit}
-use Rattle.gadget_tree.specs.LinearForm.{names_of, name_at, AreDistinct, share_names, share_variables, random_variables, IsSharesLine, IsInLine, IsRandomsLine, IsOutLine, WritesNode, IsOperationLine, linear_gadget, NextLine, OperationLines, EndOfFile, AfterOut, AfterRandoms, AfterIn, AfterShares, LinesSay}
+use Rattle.gadget_tree.specs.FlatForm.{names_of, name_at, AreDistinct, share_names, share_variables, random_variables, IsSharesLine, IsInLine, IsRandomsLine, IsOutLine, WritesNode, IsOperationLine, flat_gadget, NextLine, OperationLines, EndOfFile, AfterOut, AfterRandoms, AfterIn, AfterShares, LinesSay}
 use Rattle.gadget_tree.proofs.HeaderLines.{header_names-distinct}
 use Rattle.gadget_tree.proofs.NamesOf.{named_once, named_all_once}
 use Rattle.gadget_tree.proofs.Prefixes.{distinct_more}
@@ -27,6 +27,10 @@ randoms_once n inputs line a b h k = let e = h.words in let f = k.words in cc
 outputs_once : (n : ℕ) (inputs randoms : List (List ℕ)) (line : List ℕ) (a b : List (List ℕ)) → IsOutLine n inputs randoms line a → IsOutLine n inputs randoms line b → a ≡ b
 outputs_once n inputs randoms line a b h k = let e = h.words in let f = k.words in cc
 
+-- the first byte of the fourth word, which is the operator of a line
+abbrev operator_of : List (List ℕ) → ℕ
+operator_of words = get_or (get_or words 3 []) 0 0
+
 module _ (vs : List Variable) (distinct : AreDistinct (names_of vs)) (words : List (List ℕ)) (x y : List ℕ) where
   same_operand : (a b : ℕ) → a < length vs → b < length vs → name_at vs a ≡ name_at vs b → a ≡ b
   same_operand a b l m e = named_once vs distinct (name_at vs b) a b (l, e) (m, refl)
@@ -34,10 +38,9 @@ module _ (vs : List Variable) (distinct : AreDistinct (names_of vs)) (words : Li
   written_once : (v w : Node) → WritesNode vs words x v → WritesNode vs words y w → (x ≡ y) × (v ≡ w)
   written_once (share k) w h g = absurd h
   written_once (random k) w h g = absurd h
-  written_once (product_of a b) w h g = absurd h
   written_once (copy a) (share k) h g = absurd g
   written_once (copy a) (random k) h g = absurd g
-  written_once (copy a) (product_of c d) h g = absurd g
+  written_once (copy a) (product_of c d) h g = let e = h.1 in let f = g.2 in absurd (cc)
   written_once (copy a) (sum_of c d) h g = let e = h.1 in let f = g.2 in absurd (cc)
   written_once (copy a) (copy c) h g =
       let e = h.1 in
@@ -45,7 +48,7 @@ module _ (vs : List Variable) (distinct : AreDistinct (names_of vs)) (words : Li
       (cc, ap copy (same_operand a c h.0 g.0 (cc)))
   written_once (sum_of a b) (share k) h g = absurd g
   written_once (sum_of a b) (random k) h g = absurd g
-  written_once (sum_of a b) (product_of c d) h g = absurd g
+  written_once (sum_of a b) (product_of c d) h g = let n : 43 ≡ 42 = ap operator_of (sym h.2 ∙ g.2) in absurd (omega (arith, n))
   written_once (sum_of a b) (copy c) h g = let e = h.2 in let f = g.1 in absurd (cc)
   written_once (sum_of a b) (sum_of c d) h g =
       let e = h.2 in
@@ -53,6 +56,16 @@ module _ (vs : List Variable) (distinct : AreDistinct (names_of vs)) (words : Li
       let p = same_operand a c h.0 g.0 (cc) in
       let q = same_operand b d h.1 g.1 (cc) in
       (cc, ap (λ k. sum_of k b) p ∙ ap (λ k. sum_of c k) q)
+  written_once (product_of a b) (share k) h g = absurd g
+  written_once (product_of a b) (random k) h g = absurd g
+  written_once (product_of a b) (copy c) h g = let e = h.2 in let f = g.1 in absurd (cc)
+  written_once (product_of a b) (sum_of c d) h g = let n : 42 ≡ 43 = ap operator_of (sym h.2 ∙ g.2) in absurd (omega (arith, n))
+  written_once (product_of a b) (product_of c d) h g =
+      let e = h.2 in
+      let f = g.2 in
+      let p = same_operand a c h.0 g.0 (cc) in
+      let q = same_operand b d h.1 g.1 (cc) in
+      (cc, ap (λ k. product_of k b) p ∙ ap (λ k. product_of c k) q)
 
 variable_once : (number : ℕ) (vs : List Variable) (line : List ℕ) (v w : Variable) → AreDistinct (names_of vs) → IsOperationLine number vs line v → IsOperationLine number vs line w → v ≡ w
 variable_once number vs line v w distinct h k =
@@ -85,7 +98,7 @@ module _ (r s : Result Circuit ℕ) where
 
   end_once : (n : ℕ) (inputs : List (List ℕ)) (randoms : ℕ) (outputs : List (List ℕ)) (number : ℕ) (vs : List Variable) → AreDistinct (names_of vs) → EndOfFile n inputs randoms outputs r number vs → EndOfFile n inputs randoms outputs s number vs → r ≡ s
   end_once n inputs randoms outputs number vs distinct (inl t) (inl u) =
-      t.2 ∙ ap (λ (shares : List ℕ). let read : Result Circuit ℕ = Ok (linear_gadget n inputs randoms outputs shares vs) in read) (named_all_once vs distinct (share_names n outputs) t.0 u.0 t.1 u.1) ∙ sym u.2
+      t.2 ∙ ap (λ (shares : List ℕ). let read : Result Circuit ℕ = Ok (flat_gadget n inputs randoms outputs shares vs) in read) (named_all_once vs distinct (share_names n outputs) t.0 u.0 t.1 u.1) ∙ sym u.2
   end_once n inputs randoms outputs number vs distinct (inl t) (inr u) = absurd (u.0 t.0 t.1)
   end_once n inputs randoms outputs number vs distinct (inr t) (inl u) = absurd (t.0 u.0 u.1)
   end_once n inputs randoms outputs number vs distinct (inr t) (inr u) = t.1 ∙ sym u.1

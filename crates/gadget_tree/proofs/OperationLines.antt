@@ -2,7 +2,7 @@
 use Rattle.std.proofs.Common.{◌≡◌, ℕ, ◌<◌, ◌≤◌, ◌+◌, ◌++◌, List, [], ◌∷◌, length, get_or, drop, sym, subst, Bor, inl, Result}
 use Rattle.std.proofs.lemmas.List.{drop_more, at_drop_all}
 use Rattle.gadget_model.specs.Circuit.{Circuit, Variable}
-use Rattle.gadget_tree.specs.LinearForm.{IsOperationLine, OperationLines, EndOfFile, AfterOut, LinesSay, share_variables, random_variables}
+use Rattle.gadget_tree.specs.FlatForm.{IsOperationLine, OperationLines, EndOfFile, AfterOut, LinesSay, share_variables, random_variables}
 use Rattle.gadget_tree.specs.Reading.{GoesOn}
 use Rattle.gadget_tree.proofs.Texts.{texts}
 

@@ -5,8 +5,8 @@ use Rattle.std.proofs.lemmas.Bool.{not-false}
 use Rattle.std.proofs.lemmas.List.{get_or_default}
 use Rattle.gadget_model.specs.Circuit.{Node, share, random, copy, sum_of, product_of, Variable}
 use Rattle.gadget_tree.specs.declared.var.VarKind.{VarKind}
-use Rattle.gadget_tree.specs.LinearForm.{names_of, name_at, is_stem, WritesNode}
-use Rattle.gadget_tree.specs.Reading.{Reads, IsSum, IsExpression, IsAssignment}
+use Rattle.gadget_tree.specs.FlatForm.{names_of, name_at, is_stem, WritesNode}
+use Rattle.gadget_tree.specs.Reading.{Reads, AreOperands, IsBinary, IsExpression, IsAssignment}
 use Rattle.gadget_tree.specs.Seen.{node_of}
 use Rattle.gadget_tree.proofs.Texts.{texts}
 use Rattle.gadget_tree.proofs.Variables.{length-names_of}
@@ -35,30 +35,46 @@ no_copy vs (w ∷ []) d l none (copy a) h =
     let s : name_at vs a ≡ w.now = cc in
     none (Contains-name_at vs w.now a h.0 s)
 no_copy vs (w ∷ []) d l none (sum_of a b) h = let e = h.2 in absurd (cc)
-no_copy vs (w ∷ []) d l none (product_of a b) h = h
+no_copy vs (w ∷ []) d l none (product_of a b) h = let e = h.2 in absurd (cc)
 
 module _ (vs : List Variable) where
-  pub sum_written : (ws : List (Bor (List ℕ))) (d : Bor (List ℕ)) → length ws ≡ 3 → (get_or ws 1 d).now ≡ codes "+" → (node : Node) → IsSum vs (get_or ws 0 d).now (get_or ws 2 d).now node → IsExpression vs (texts ws) node
-  sum_written [] d l p node h = absurd (omega arith)
-  sum_written (x ∷ []) d l p node h = absurd (omega arith)
-  sum_written (x ∷ y ∷ []) d l p node h = absurd (omega arith)
-  sum_written (x ∷ y ∷ z ∷ w ∷ ws) d l p node h = absurd (omega arith)
-  sum_written (x ∷ y ∷ z ∷ []) d l p (share k) h = h
-  sum_written (x ∷ y ∷ z ∷ []) d l p (random k) h = h
-  sum_written (x ∷ y ∷ z ∷ []) d l p (copy a) h = absurd h
-  sum_written (x ∷ y ∷ z ∷ []) d l p (sum_of a b) h = (h.0, h.1, let e = h.2 in let f = h.3 in cc)
-  sum_written (x ∷ y ∷ z ∷ []) d l p (product_of a b) h = h
+  -- where no operands are found, no operator makes anything of them
+  pub no_binary : (left operator right : List ℕ) → ((a b : ℕ) → AreOperands vs left right a b → ⊥) → (node : Node) → IsBinary vs left operator right node → ⊥
+  no_binary left operator right none (share k) h = h
+  no_binary left operator right none (random k) h = h
+  no_binary left operator right none (copy a) h = h
+  no_binary left operator right none (sum_of a b) h = none a b h.1
+  no_binary left operator right none (product_of a b) h = none a b h.1
 
-  pub sum_read : (ws : List (Bor (List ℕ))) (d : Bor (List ℕ)) → length ws ≡ 3 → (node : Node) → IsExpression vs (texts ws) node → IsSum vs (get_or ws 0 d).now (get_or ws 2 d).now node
-  sum_read [] d l node h = absurd (omega arith)
-  sum_read (x ∷ []) d l node h = absurd (omega arith)
-  sum_read (x ∷ y ∷ []) d l node h = absurd (omega arith)
-  sum_read (x ∷ y ∷ z ∷ w ∷ ws) d l node h = absurd (omega arith)
-  sum_read (x ∷ y ∷ z ∷ []) d l (share k) h = h
-  sum_read (x ∷ y ∷ z ∷ []) d l (random k) h = h
-  sum_read (x ∷ y ∷ z ∷ []) d l (copy a) h = let e = h.1 in cc
-  sum_read (x ∷ y ∷ z ∷ []) d l (sum_of a b) h = let e = h.2 in (h.0, h.1, cc, cc)
-  sum_read (x ∷ y ∷ z ∷ []) d l (product_of a b) h = h
+  -- another word is no operator
+  pub no_operator : (left operator right : List ℕ) → (operator ≡ codes "+" → ⊥) → (operator ≡ codes "*" → ⊥) → (node : Node) → IsBinary vs left operator right node → ⊥
+  no_operator left operator right no_sum no_product (share k) h = h
+  no_operator left operator right no_sum no_product (random k) h = h
+  no_operator left operator right no_sum no_product (copy a) h = h
+  no_operator left operator right no_sum no_product (sum_of a b) h = no_sum h.0
+  no_operator left operator right no_sum no_product (product_of a b) h = no_product h.0
+
+  pub binary_written : (ws : List (Bor (List ℕ))) (d : Bor (List ℕ)) → length ws ≡ 3 → (node : Node) → IsBinary vs (get_or ws 0 d).now (get_or ws 1 d).now (get_or ws 2 d).now node → IsExpression vs (texts ws) node
+  binary_written [] d l node h = absurd (omega arith)
+  binary_written (x ∷ []) d l node h = absurd (omega arith)
+  binary_written (x ∷ y ∷ []) d l node h = absurd (omega arith)
+  binary_written (x ∷ y ∷ z ∷ w ∷ ws) d l node h = absurd (omega arith)
+  binary_written (x ∷ y ∷ z ∷ []) d l (share k) h = h
+  binary_written (x ∷ y ∷ z ∷ []) d l (random k) h = h
+  binary_written (x ∷ y ∷ z ∷ []) d l (copy a) h = absurd h
+  binary_written (x ∷ y ∷ z ∷ []) d l (sum_of a b) h = let o = h.1 in (o.0, o.1, let p = h.0 in let e = o.2 in let f = o.3 in cc)
+  binary_written (x ∷ y ∷ z ∷ []) d l (product_of a b) h = let o = h.1 in (o.0, o.1, let p = h.0 in let e = o.2 in let f = o.3 in cc)
+
+  pub binary_read : (ws : List (Bor (List ℕ))) (d : Bor (List ℕ)) → length ws ≡ 3 → (node : Node) → IsExpression vs (texts ws) node → IsBinary vs (get_or ws 0 d).now (get_or ws 1 d).now (get_or ws 2 d).now node
+  binary_read [] d l node h = absurd (omega arith)
+  binary_read (x ∷ []) d l node h = absurd (omega arith)
+  binary_read (x ∷ y ∷ []) d l node h = absurd (omega arith)
+  binary_read (x ∷ y ∷ z ∷ w ∷ ws) d l node h = absurd (omega arith)
+  binary_read (x ∷ y ∷ z ∷ []) d l (share k) h = h
+  binary_read (x ∷ y ∷ z ∷ []) d l (random k) h = h
+  binary_read (x ∷ y ∷ z ∷ []) d l (copy a) h = let e = h.1 in cc
+  binary_read (x ∷ y ∷ z ∷ []) d l (sum_of a b) h = let e = h.2 in (cc, (h.0, h.1, cc, cc))
+  binary_read (x ∷ y ∷ z ∷ []) d l (product_of a b) h = let e = h.2 in (cc, (h.0, h.1, cc, cc))
 
   -- `x = ` before an expression writes its node behind the name x
   pub node_written : (x : List ℕ) (words : List (List ℕ)) (node : Node) → IsExpression vs words node → WritesNode vs (x ∷ codes "=" ∷ words) x node
@@ -66,14 +82,14 @@ module _ (vs : List Variable) where
   node_written x words (random k) h = h
   node_written x words (copy a) h = (h.0, ap (λ (ws : List (List ℕ)). x ∷ codes "=" ∷ ws) h.1)
   node_written x words (sum_of a b) h = (h.0, h.1, ap (λ (ws : List (List ℕ)). x ∷ codes "=" ∷ ws) h.2)
-  node_written x words (product_of a b) h = h
+  node_written x words (product_of a b) h = (h.0, h.1, ap (λ (ws : List (List ℕ)). x ∷ codes "=" ∷ ws) h.2)
 
   pub node_read : (x y name : List ℕ) (words : List (List ℕ)) (node : Node) → WritesNode vs (x ∷ y ∷ words) name node → IsExpression vs words node
   node_read x y name words (share k) h = h
   node_read x y name words (random k) h = h
   node_read x y name words (copy a) h = let e = h.1 in (h.0, cc)
   node_read x y name words (sum_of a b) h = let e = h.2 in (h.0, h.1, cc)
-  node_read x y name words (product_of a b) h = h
+  node_read x y name words (product_of a b) h = let e = h.2 in (h.0, h.1, cc)
 
   pub assigned-says : (ws : List (Bor (List ℕ))) (d : Bor (List ℕ)) → 2 ≤ length ws → (get_or ws 1 d).now ≡ codes "=" → IsTrue (is_stem (get_or ws 0 d).now) → (Contains (names_of vs) (get_or ws 0 d).now → ⊥)
       → (o : Option VarKind) → Reads node_of (IsExpression vs (texts (drop 2 ws))) o

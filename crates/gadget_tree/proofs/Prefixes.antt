@@ -5,8 +5,8 @@ use Rattle.std.proofs.lemmas.List.{map-append, length-map, length_push, get_or_d
 use Rattle.std.proofs.lemmas.List.Elements.{All-append}
 use Rattle.std.proofs.lemmas.List.Quantifiers.{all_pairs_push}
 use Rattle.gadget_model.specs.Circuit.{Node, share, random, copy, sum_of, product_of, Variable, NamesEarlier}
-use Rattle.gadget_tree.specs.Gadgets.{IsLinearNode}
-use Rattle.gadget_tree.specs.LinearForm.{names_of, AreDistinct, share_names, share_variables, random_variables, linear_gadget, WritesNode, IsOperationLine}
+use Rattle.gadget_tree.specs.Gadgets.{IsNumberedNode}
+use Rattle.gadget_tree.specs.FlatForm.{names_of, AreDistinct, share_names, share_variables, random_variables, flat_gadget, WritesNode, IsOperationLine}
 use Rattle.gadget_tree.proofs.Lists.{each_push}
 use Rattle.gadget_tree.proofs.RandomVariables.{names_of-header_variables, length-header_variables-le, nodes-random_variables, IsRandomOf}
 use Rattle.gadget_tree.proofs.ShareVariables.{nodes-share_variables, IsShareOf}
@@ -16,7 +16,7 @@ nodes_of vs = map (λ v. v.node) vs
 
 -- a node that may stand at place k
 abbrev pub IsGood : ℕ → List (List ℕ) → ℕ → ℕ → Node → Type 0
-IsGood n inputs randoms k node = NamesEarlier randoms k node × IsLinearNode (linear_gadget n inputs randoms [] [] []) node
+IsGood n inputs randoms k node = NamesEarlier randoms k node × IsNumberedNode (flat_gadget n inputs randoms [] [] []) node
 
 pub record IsPrefix (n : ℕ) (inputs : List (List ℕ)) (randoms : ℕ) (vs : List Variable) : Type 0 where
   pub few : length vs ≤ 511
@@ -34,7 +34,7 @@ good_written n inputs randoms vs words x k (share j) e h = absurd h
 good_written n inputs randoms vs words x k (random j) e h = absurd h
 good_written n inputs randoms vs words x k (copy a) e h = let l = h.0 in (omega arith, tt)
 good_written n inputs randoms vs words x k (sum_of a b) e h = let l = h.0 in let m = h.1 in ((omega arith, omega arith), tt)
-good_written n inputs randoms vs words x k (product_of a b) e h = absurd h
+good_written n inputs randoms vs words x k (product_of a b) e h = let l = h.0 in let m = h.1 in ((omega arith, omega arith), tt)
 
 pub distinct_more : (number : ℕ) (vs : List Variable) (line : List ℕ) (v : Variable) → AreDistinct (names_of vs) → IsOperationLine number vs line v → AreDistinct (names_of (vs ++ v ∷ []))
 distinct_more number vs line v distinct h =

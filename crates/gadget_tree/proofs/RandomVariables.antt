@@ -3,7 +3,7 @@ use Rattle.std.proofs.Common.{◌≡◌, ℕ, zero, suc, ◌<◌, ◌≤◌, ◌
 use Rattle.std.specs.Prelude.{All}
 use Rattle.std.proofs.lemmas.List.{map-append, length-append}
 use Rattle.gadget_model.specs.Circuit.{Node, random, Variable}
-use Rattle.gadget_tree.specs.LinearForm.{share_names, share_variables, random_variables, names_of}
+use Rattle.gadget_tree.specs.FlatForm.{share_names, share_variables, random_variables, names_of}
 use Rattle.gadget_tree.proofs.ShareVariables.{names_of-share_variables, length-share_variables-le}
 
 pub names_of-random_variables : (k : ℕ) (stems : List (List ℕ)) → names_of (random_variables k stems) ≡ stems

@@ -6,7 +6,7 @@ use Rattle.std.proofs.lemmas.List.{map-append, length-append}
 use Rattle.std.proofs.lemmas.List.Elements.{All-append}
 use Rattle.std.proofs.lemmas.List.FromFn.{length-map-range_with_len, get_or-map-range_with_len}
 use Rattle.gadget_model.specs.Circuit.{Node, share, Variable}
-use Rattle.gadget_tree.specs.LinearForm.{share_name, share_names, shares_of_input, share_variables, names_of}
+use Rattle.gadget_tree.specs.FlatForm.{share_name, share_names, shares_of_input, share_variables, names_of}
 
 pub map-map : {A B C : Type 0} (g : B → C) (f : A → B) (xs : List A) → map g (map f xs) ≡ map (λ x. g (f x)) xs
 map-map g f [] = refl

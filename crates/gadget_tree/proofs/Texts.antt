@@ -1,6 +1,6 @@
 -- Lists of texts, as the code has them.
 use Rattle.std.proofs.Common.{◌≡◌, ℕ, zero, suc, ◌<◌, ◌≤◌, ◌+◌, List, [], ◌∷◌, map, length, get_or, take, drop, refl, ap, sym, ◌∙◌, arith, Bor}
-use Rattle.gadget_tree.specs.LinearForm.{without_empty_last}
+use Rattle.gadget_tree.specs.FlatForm.{without_empty_last}
 
 abbrev pub texts : List (Bor (List ℕ)) → List (List ℕ)
 texts ws = map (λ w. w.now) ws

@@ -1,18 +1,42 @@
 -- What holds of each gadget that the code makes.
 use Rattle.std.specs.Prelude.{◌≡◌, ◌≢◌, ℕ, ◌+◌, ◌*◌, ◌<◌, ◌≤◌, length, slice_index, All, AllPairs, Contains, Option, Some, None}
 use Rattle.gadget_model.specs.Circuit.{Node, share, random, copy, sum_of, product_of, Circuit, nodes, IsInOrder}
-use Rattle.gadget_tree.specs.LinearForm.{names_of, AreDistinct}
+use Rattle.gadget_tree.specs.declared.var.Var.{Var}
+use Rattle.gadget_tree.specs.declared.var.VarKind.{VarKind}
+use Rattle.gadget_tree.specs.declared.var.VarKind.TheVariants.{Share, Random, Copy, Sum, Product}
+use Rattle.gadget_tree.specs.FlatForm.{names_of, AreDistinct}
 
--- a share's number has an input and an index of the gadget, and no variable is a product
-abbrev pub IsLinearNode : Circuit → Node → Type 0
-IsLinearNode g (share k) = (input : ℕ) × (index : ℕ) × (input < length g.inputs) × (index < g.shares) × (k ≡ 16 * input + index)
-IsLinearNode g (random k) = Unit {0}
-IsLinearNode g (copy a) = Unit {0}
-IsLinearNode g (sum_of a b) = Unit {0}
-IsLinearNode g (product_of a b) = ⊥
+-- share k is an input share of the gadget: its number has an input and an index
+abbrev pub IsInputShare : Circuit → ℕ → Type 0
+IsInputShare g k = (input : ℕ) × (index : ℕ) × (input < length g.inputs) × (index < g.shares) × (k ≡ 16 * input + index)
 
--- a gadget within the limits, with names of their own for its variables, in order of evaluation, of the linear form, in which
--- no variable is two output shares
+-- a node that is a share is an input share of the gadget
+abbrev pub IsNumberedNode : Circuit → Node → Type 0
+IsNumberedNode g (share k) = IsInputShare g k
+IsNumberedNode g (random k) = Unit {0}
+IsNumberedNode g (copy a) = Unit {0}
+IsNumberedNode g (sum_of a b) = Unit {0}
+IsNumberedNode g (product_of a b) = Unit {0}
+
+-- a kind that is a share is one of so many inputs, each of which has so many shares
+abbrev pub IsShareBelow : ℕ → ℕ → VarKind → Type 0
+IsShareBelow inputs shares (Share input index) = (input < inputs) × (index < shares)
+IsShareBelow inputs shares (Random k) = Unit {0}
+IsShareBelow inputs shares (Copy a) = Unit {0}
+IsShareBelow inputs shares (Sum a b) = Unit {0}
+IsShareBelow inputs shares (Product a b) = Unit {0}
+
+-- a variable of such a kind
+abbrev pub HasShareBelow : ℕ → ℕ → Var → Type 0
+HasShareBelow inputs shares v = IsShareBelow inputs shares v.kind
+
+-- A variable that is a share has an input and an index of the gadget. With its number, 16 * input + index, that says which
+-- input and which index they are.
+abbrev pub HasShareOf : Circuit → Var → Type 0
+HasShareOf g v = HasShareBelow (length g.inputs) g.shares v
+
+-- a gadget within the limits, with names of their own for its variables, in order of evaluation, in which no variable
+-- is two output shares
 pub record IsGadget (g : Circuit) : Type 0 where
   pub some_shares : 1 ≤ g.shares
   pub few_shares : g.shares ≤ 16
@@ -24,7 +48,7 @@ pub record IsGadget (g : Circuit) : Type 0 where
   pub few_variables : length g.variables ≤ 511
   pub distinct_names : AreDistinct (names_of g.variables)
   pub in_order : IsInOrder g
-  pub linear : All (IsLinearNode g) (nodes g)
+  pub shares_numbered : All (IsNumberedNode g) (nodes g)
   pub all_outputs : length g.output_shares ≡ length g.outputs * g.shares
   pub outputs_exist : All (λ v. v < length g.variables) g.output_shares
   pub distinct_outputs : AllPairs (λ v w. v ≢ w) g.output_shares

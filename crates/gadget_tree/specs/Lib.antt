@@ -1,6 +1,6 @@
 pub mod Seen
 pub mod Gadgets
 pub mod Inside
-pub mod LinearForm
+pub mod FlatForm
 pub mod Reading
 pub mod Refusals

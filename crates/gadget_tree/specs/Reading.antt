@@ -1,9 +1,9 @@
--- What the parts of the reader say of a line: what it says in the linear form, or that it says nothing.
+-- What the parts of the reader say of a line: what it says in the flat form, or that it says nothing.
 use denote.Ref.{Bor}
 use Rattle.std.specs.Prelude.{◌≡◌, ℕ, ◌+◌, ◌<◌, ◌≤◌, IsTrue, List, [], ◌∷◌, map, drop, length, All, Contains, Option, Some, None, Result, Err, codes}
 use Rattle.gadget_model.specs.Circuit.{Node, share, random, copy, sum_of, product_of, Variable, Circuit}
 use Rattle.gadget_tree.specs.declared.header.Header.{Header}
-use Rattle.gadget_tree.specs.LinearForm.{is_stem, names_of, name_at, words_of, WritesNode, OperationLines, EndOfFile, AfterOut}
+use Rattle.gadget_tree.specs.FlatForm.{is_stem, names_of, name_at, words_of, WritesNode, OperationLines, EndOfFile, AfterOut}
 
 -- An answer is right: what was found is said, or nothing is. The answer is seen as the model sees it.
 abbrev pub Reads : {X A : Type 0} → (X → A) → (A → Type 0) → Option X → Type 0
@@ -17,21 +17,25 @@ pub record IsStemsLine (keyword : List ℕ) (most : ℕ) (line : List ℕ) (stem
   pub all_stems : All (λ w. IsTrue (is_stem w)) stems
   pub words : words_of line ≡ keyword ∷ stems
 
--- the node is the sum of two earlier variables with these names
-abbrev pub IsSum : List Variable → List ℕ → List ℕ → Node → Type 0
-IsSum earlier left right (share k) = ⊥
-IsSum earlier left right (random k) = ⊥
-IsSum earlier left right (copy a) = ⊥
-IsSum earlier left right (sum_of a b) = (a < length earlier) × (b < length earlier) × (left ≡ name_at earlier a) × (right ≡ name_at earlier b)
-IsSum earlier left right (product_of a b) = ⊥
+-- a and b are the numbers of earlier variables with these names
+abbrev pub AreOperands : List Variable → List ℕ → List ℕ → ℕ → ℕ → Type 0
+AreOperands earlier left right a b = (a < length earlier) × (b < length earlier) × (left ≡ name_at earlier a) × (right ≡ name_at earlier b)
 
--- the words are what stands behind `=`: a name of an earlier variable, or the sum of two
+-- the node is what an operator makes of two earlier variables with these names: their sum or their product
+abbrev pub IsBinary : List Variable → List ℕ → List ℕ → List ℕ → Node → Type 0
+IsBinary earlier left operator right (share k) = ⊥
+IsBinary earlier left operator right (random k) = ⊥
+IsBinary earlier left operator right (copy a) = ⊥
+IsBinary earlier left operator right (sum_of a b) = (operator ≡ codes "+") × AreOperands earlier left right a b
+IsBinary earlier left operator right (product_of a b) = (operator ≡ codes "*") × AreOperands earlier left right a b
+
+-- the words are what stands behind `=`: a name of an earlier variable, or the sum or product of two
 abbrev pub IsExpression : List Variable → List (List ℕ) → Node → Type 0
 IsExpression earlier words (share k) = ⊥
 IsExpression earlier words (random k) = ⊥
 IsExpression earlier words (copy a) = (a < length earlier) × (words ≡ name_at earlier a ∷ [])
 IsExpression earlier words (sum_of a b) = (a < length earlier) × (b < length earlier) × (words ≡ name_at earlier a ∷ codes "+" ∷ name_at earlier b ∷ [])
-IsExpression earlier words (product_of a b) = ⊥
+IsExpression earlier words (product_of a b) = (a < length earlier) × (b < length earlier) × (words ≡ name_at earlier a ∷ codes "*" ∷ name_at earlier b ∷ [])
 
 -- the words assign a node to a name of its own
 pub record IsAssignment (earlier : List Variable) (words : List (List ℕ)) (name : List ℕ) (node : Node) : Type 0 where

@@ -1,9 +1,10 @@
 //! Reading a gadget file.
 
-ghost use Rattle.std.specs.Prelude.{◌≡◌, ℕ, List, ◌+◌, ◌≤◌, [], map, drop, length, IfOk, IfErr, MatchResult, Result, Ok, Err};
+ghost use Rattle.std.specs.Prelude.{All, ◌≡◌, ℕ, List, ◌+◌, ◌≤◌, [], map, drop, length, IfOk, IfErr, MatchResult, Result, Ok, Err};
 ghost use Rattle.std.specs.List.{AllZip};
 ghost use Rattle.gadget_model.specs.Circuit.{Circuit};
-ghost use Rattle.gadget_tree.specs.LinearForm.{AreOutputShares, IsNamed, LinesSay, FileSays};
+ghost use Rattle.gadget_tree.specs.FlatForm.{AreOutputShares, IsNamed, LinesSay, FileSays};
+ghost use Rattle.gadget_tree.specs.Gadgets.{HasShareBelow};
 ghost use Rattle.gadget_tree.specs.Reading.{Reads, GoesOn, StopsAt};
 ghost use Rattle.gadget_tree.specs.Refusals.{Refuses};
 ghost use Rattle.gadget_tree.specs.Seen.{variables_of};
@@ -37,14 +38,15 @@ fn read_operations(
     requires few { length vars.items ≤ 511 }
     requires lines { length lines.now ≤ 1048577 }
     requires first { first ≤ 5 }
-    ensures { MatchResult result
+    ensures said { MatchResult result
         (λ v. (length v.items ≤ 511) × GoesOn first (variables_of vars.items) (map (λ w. w.now) lines.now) (first + length lines.now) (variables_of v.items) [])
         (Refuses (λ line. StopsAt line first (variables_of vars.items) (map (λ w. w.now) lines.now))) }
+    ensures shares { IfOk result (λ v. (inputs shares : ℕ) → All (HasShareBelow inputs shares) vars.items → All (HasShareBelow inputs shares) v.items) }
 {
     for (i, line) in lines.iter().enumerate() {
         let number = first + i as u32;
         let Some(var) = operation(alloc, &vars, line, number)? else {
-            return Err(FileError::NotYet(number));
+            return Err(FileError::Syntax(number));
         };
         vars.push(var)?;
     }
@@ -93,19 +95,19 @@ fn read_lines(alloc: Global, lines: &[&[u8]]) -> Result<Gadget, FileError>
     let first = header.lines as u32 + 1;
     let vars = read_operations(alloc, operation_lines(lines, header.lines), first, start)?;
     let Some(output_shares) = output_shares(alloc, &vars, header.shares, &header.outputs)? else {
-        return Err(FileError::NotYet(lines.len() as u32 + 1));
+        return Err(FileError::Syntax(lines.len() as u32 + 1));
     };
     Ok(Gadget::new(header, output_shares, vars))
 }
 
-/// The gadget that a file of the linear form says: `#SHARES n`, `#IN a b ..`, `#RANDOMS r s ..` where it has randoms,
+/// The gadget that a file of the flat form says: `#SHARES n`, `#IN a b ..`, `#RANDOMS r s ..` where it has randoms,
 /// `#OUT d ..` and then a line for each copy `x = a` and each sum `x = a + b`. Otherwise the first line that the form does not allow at its place; where only a line
 /// or an output share is missing, that is the number of lines and 1. A file has at most a mebibyte. Time is at most the
 /// number of lines times that of variables.
 pub fn read_gadget(alloc: Global, bytes: &[u8]) -> Result<Gadget, FileError>
     requires { length bytes.now ≤ 1048576 }
     ensures ok { IfOk result (λ g. FileSays bytes.now (Ok g)) }
-    ensures not_yet { IfErr result (Refuses (λ line. FileSays bytes.now (Err line))) }
+    ensures syntax { IfErr result (Refuses (λ line. FileSays bytes.now (Err line))) }
 {
     let lines = lines(alloc, bytes)?;
     read_lines(alloc, &lines)

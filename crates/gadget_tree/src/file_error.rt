@@ -8,9 +8,9 @@ use std::alloc::{AllocError, AllocFailed};
 /// Why a gadget file is refused.
 #[derive(Clone, Copy, Debug, PartialEq, Eq, Drop)]
 pub enum FileError {
-    /// The linear form does not allow this line at its place, counted from 1. It is the number of lines and 1 where a line
+    /// The flat form does not allow this line at its place, counted from 1. It is the number of lines and 1 where a line
     /// or an output share is missing.
-    NotYet(u32),
+    Syntax(u32),
     /// Memory ran out.
     OutOfMemory,
 }

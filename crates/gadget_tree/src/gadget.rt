@@ -1,9 +1,10 @@
 //! Gadgets: masked circuits, written flat.
 
-ghost use Rattle.std.specs.Prelude.{◌≤◌, ◌≡◌, ℕ, ◌+◌, ◌*◌, ◌/◌, ◌%◌, ◌<◌, map, length, slice_index};
+ghost use Rattle.std.specs.Prelude.{◌≤◌, ◌≡◌, ℕ, ◌+◌, ◌*◌, ◌/◌, ◌%◌, ◌<◌, map, length, slice_index, All, Option};
+ghost use Rattle.gadget_model.specs.Circuit.{Circuit};
 ghost use Rattle.gadget_tree.specs.Seen.{variables_of};
-ghost use Rattle.gadget_tree.specs.Gadgets.{IsGadget, IsOutOf};
-ghost use Rattle.gadget_tree.specs.LinearForm.{linear_gadget};
+ghost use Rattle.gadget_tree.specs.Gadgets.{IsGadget, HasShareBelow, HasShareOf, IsOutOf};
+ghost use Rattle.gadget_tree.specs.FlatForm.{flat_gadget};
 
 use crate::header::Header;
 use crate::name::Name;
@@ -22,23 +23,25 @@ pub struct Gadget {
 }
 
 impl Model for Gadget {
+    ghost use Rattle.std.specs.Prelude.{All};
     ghost use Rattle.gadget_model.specs.Circuit.{Circuit};
 
     ghost Value = { Circuit };
 
     ghost use Rattle.gadget_tree.specs.Inside.{circuit_of};
-    ghost use Rattle.gadget_tree.specs.Gadgets.{IsGadget};
+    ghost use Rattle.gadget_tree.specs.Gadgets.{IsGadget, HasShareOf};
 
     ghost view = { circuit_of };
 
-    ghost invariant = { λ g. IsGadget (circuit_of g) };
+    ghost invariant = { λ g. IsGadget (circuit_of g) × All (HasShareOf (circuit_of g)) g.vars.items };
 }
 
 impl Gadget {
-    /// A gadget of the linear form.
+    /// A gadget of the flat form.
     pub(crate) fn new(header: Header, output_shares: Vec<u16>, vars: Vec<Var>) -> Gadget
-        requires { IsGadget (linear_gadget header.shares header.inputs.items (length header.randoms.items) header.outputs.items output_shares.items (variables_of vars.items)) }
-        ensures { result ≡ linear_gadget header.shares header.inputs.items (length header.randoms.items) header.outputs.items output_shares.items (variables_of vars.items) }
+        requires gadget { IsGadget (flat_gadget header.shares header.inputs.items (length header.randoms.items) header.outputs.items output_shares.items (variables_of vars.items)) }
+        requires shares { All (HasShareBelow (length header.inputs.items) header.shares) vars.items }
+        ensures { result ≡ flat_gadget header.shares header.inputs.items (length header.randoms.items) header.outputs.items output_shares.items (variables_of vars.items) }
     {
         let Header {
             shares,
@@ -93,6 +96,7 @@ impl Gadget {
     pub fn vars(&self) -> &[Var]
         ensures variables { variables_of result.now ≡ self.now.variables }
         ensures gadget { IsGadget self.now }
+        ensures shares { All (HasShareOf self.now) result.now }
     {
         &self.vars
     }
@@ -115,3 +119,8 @@ impl Gadget {
         Some(((place / shares) as u8, (place % shares) as u8))
     }
 }
+
+/// A variable of a gadget is one share of one output at most, so that `out_of` has one answer.
+pub fn one_output_law()
+    ensures { (g : Circuit) (var : ℕ) (a b : Option (ℕ × ℕ)) → IsGadget g → IsOutOf g var a → IsOutOf g var b → a ≡ b }
+{}

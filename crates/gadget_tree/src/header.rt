@@ -3,7 +3,7 @@
 ghost use Rattle.std.specs.Prelude.{◌≡◌, ℕ, ◌+◌, ◌≤◌, ◌<◌, IfOk, IsTrue, MatchResult, map, drop, length, All, ◌++◌, ◌↔◌, decimal, Result, Ok, Err};
 ghost use Rattle.std.specs.List.{list_all};
 ghost use Rattle.gadget_model.specs.Circuit.{Circuit};
-ghost use Rattle.gadget_tree.specs.LinearForm.{is_stem, share_names, AreDistinct, IsSharesLine, IsInLine, IsRandomsLine, IsOutLine, AfterRandoms, AfterIn, LinesSay};
+ghost use Rattle.gadget_tree.specs.FlatForm.{is_stem, share_names, AreDistinct, IsSharesLine, IsInLine, IsRandomsLine, IsOutLine, AfterRandoms, AfterIn, LinesSay};
 ghost use Rattle.gadget_tree.specs.Reading.{Reads, IsStemsLine, IsHeader};
 ghost use Rattle.gadget_tree.specs.Refusals.{Refuses};
 
@@ -185,10 +185,10 @@ fn header_with_randoms(
         (Refuses (λ line. AfterRandoms (before + 1) shares inputs.items randoms.items (map (λ w. w.now) (drop before lines.now)) (Err line))) }
 {
     if lines.len() <= before {
-        return Err(FileError::NotYet(before as u32 + 1));
+        return Err(FileError::Syntax(before as u32 + 1));
     }
     let Some(outputs) = out_line(alloc, shares, &inputs, &randoms, lines[before])? else {
-        return Err(FileError::NotYet(before as u32 + 1));
+        return Err(FileError::Syntax(before as u32 + 1));
     };
     Ok(Header {
         shares,
@@ -213,7 +213,7 @@ fn header_with_inputs(
         (Refuses (λ line. AfterIn shares inputs.items (map (λ w. w.now) (drop 2 lines.now)) (Err line))) }
 {
     if lines.len() < 3 {
-        return Err(FileError::NotYet(3));
+        return Err(FileError::Syntax(3));
     }
     let Some(randoms) = randoms_line(alloc, shares, &inputs, lines[2])? else {
         return header_with_randoms(alloc, lines, 2, shares, inputs, Vec::new(alloc));
@@ -228,16 +228,16 @@ pub(crate) fn read_header(alloc: Global, lines: &[&[u8]]) -> Result<Header, File
         (Refuses (λ line. LinesSay (map (λ w. w.now) lines.now) (Err line))) }
 {
     if lines.is_empty() {
-        return Err(FileError::NotYet(1));
+        return Err(FileError::Syntax(1));
     }
     let Some(shares) = shares_line(alloc, lines[0])? else {
-        return Err(FileError::NotYet(1));
+        return Err(FileError::Syntax(1));
     };
     if lines.len() < 2 {
-        return Err(FileError::NotYet(2));
+        return Err(FileError::Syntax(2));
     }
     let Some(inputs) = in_line(alloc, shares, lines[1])? else {
-        return Err(FileError::NotYet(2));
+        return Err(FileError::Syntax(2));
     };
     header_with_inputs(alloc, lines, shares, inputs)
 }

@@ -14,7 +14,7 @@ pub mod var;
 
 pub use file::{one_reading_law, read_gadget};
 pub use file_error::FileError;
-pub use gadget::Gadget;
+pub use gadget::{Gadget, one_output_law};
 pub use name::Name;
 pub use var::{Var, VarKind};
 

@@ -3,7 +3,7 @@
 ghost use Rattle.std.specs.Prelude.{◌≡◌, ◌==◌, ◌||◌, map, length, IfOk};
 ghost use Rattle.std.specs.List.{slice_split, list_all};
 ghost use Rattle.std.specs.Char.{is_ascii_digit};
-ghost use Rattle.gadget_tree.specs.LinearForm.{lines_of, words_of, starts_stem, is_stem};
+ghost use Rattle.gadget_tree.specs.FlatForm.{lines_of, words_of, starts_stem, is_stem};
 
 use std::alloc::{AllocError, Global};
 

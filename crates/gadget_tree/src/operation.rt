@@ -1,9 +1,9 @@
-//! An operation line: a copy of a variable, or the sum of two.
+//! An operation line: a copy of a variable, or the sum or product of two.
 
 ghost use Rattle.std.specs.Prelude.{◌≡◌, ℕ, ◌≤◌, ◌<◌, IfOk, IsTrue, ◌↔◌, MatchOption, map, drop, length, slice_index_or, [], List, Contains};
 ghost use Rattle.gadget_model.specs.Circuit.{Node};
-ghost use Rattle.gadget_tree.specs.LinearForm.{is_stem, names_of, name_at, IsOperationLine};
-ghost use Rattle.gadget_tree.specs.Reading.{Reads, IsSum, IsExpression, IsAssignment};
+ghost use Rattle.gadget_tree.specs.FlatForm.{is_stem, names_of, name_at, IsOperationLine};
+ghost use Rattle.gadget_tree.specs.Reading.{Reads, AreOperands, IsBinary, IsExpression, IsAssignment};
 ghost use Rattle.gadget_tree.specs.Seen.{variables_of, variable_of, node_of};
 
 use crate::lines::{is_stem, words};
@@ -24,14 +24,31 @@ pub(crate) fn number(vars: &[Var], word: &[u8]) -> Option<u16>
     None
 }
 
-// The sum of two named variables.
-fn sum(vars: &[Var], left: &[u8], right: &[u8]) -> Option<VarKind>
+// The numbers of two named variables.
+fn operands(vars: &[Var], left: &[u8], right: &[u8]) -> Option<(u16, u16)>
     requires { length vars.now ≤ 511 }
-    ensures { Reads node_of (IsSum (variables_of vars.now) left.now right.now) result }
+    ensures { MatchOption result
+        ((a b : ℕ) → AreOperands (variables_of vars.now) left.now right.now a b → ⊥)
+        (λ operands. AreOperands (variables_of vars.now) left.now right.now operands.0 operands.1) }
 {
     let left = number(vars, left)?;
     let right = number(vars, right)?;
-    Some(VarKind::Sum(left, right))
+    Some((left, right))
+}
+
+// What an operator makes of two named variables.
+fn binary(vars: &[Var], left: &[u8], operator: &[u8], right: &[u8]) -> Option<VarKind>
+    requires { length vars.now ≤ 511 }
+    ensures { Reads node_of (IsBinary (variables_of vars.now) left.now operator.now right.now) result }
+{
+    let (left, right) = operands(vars, left, right)?;
+    if *operator == *b"+".as_slice() {
+        return Some(VarKind::Sum(left, right));
+    }
+    if *operator == *b"*".as_slice() {
+        return Some(VarKind::Product(left, right));
+    }
+    None
 }
 
 // What stands behind `=`.
@@ -42,10 +59,10 @@ fn expression(vars: &[Var], words: &[&[u8]]) -> Option<VarKind>
     if words.len() == 1 {
         return Some(VarKind::Copy(number(vars, words[0])?));
     }
-    if words.len() != 3 || *words[1] != *b"+".as_slice() {
+    if words.len() != 3 {
         return None;
     }
-    sum(vars, words[0], words[2])
+    binary(vars, words[0], words[1], words[2])
 }
 
 // What stands behind the first two words.

@@ -1,7 +1,8 @@
 //! The names and the variables of randoms.
 
-ghost use Rattle.std.specs.Prelude.{◌≡◌, ◌≤◌, ◌++◌, IfOk, length};
-ghost use Rattle.gadget_tree.specs.LinearForm.{share_variables, random_variables};
+ghost use Rattle.std.specs.Prelude.{ℕ, All, ◌≡◌, ◌≤◌, ◌++◌, IfOk, length};
+ghost use Rattle.gadget_tree.specs.FlatForm.{share_variables, random_variables};
+ghost use Rattle.gadget_tree.specs.Gadgets.{HasShareBelow};
 ghost use Rattle.gadget_tree.specs.Seen.{variables_of};
 
 use crate::name::Name;
@@ -30,7 +31,8 @@ fn extend_random_vars(
     randoms: &[Name],
 ) -> Result<(), AllocError>
     requires { length randoms.now ≤ 128 }
-    ensures { IfOk result (λ _. variables_of vars.new.items ≡ variables_of vars.old.items ++ random_variables 0 randoms.now) }
+    ensures variables { IfOk result (λ _. variables_of vars.new.items ≡ variables_of vars.old.items ++ random_variables 0 randoms.now) }
+    ensures shares { IfOk result (λ _. (inputs shares : ℕ) → All (HasShareBelow inputs shares) vars.old.items → All (HasShareBelow inputs shares) vars.new.items) }
 {
     for (place, random) in randoms.iter().enumerate() {
         vars.push(Var {
@@ -51,7 +53,8 @@ pub(crate) fn header_vars(
 ) -> Result<Vec<Var>, AllocError>
     requires few_inputs { length inputs.now ≤ 4 }
     requires few_randoms { length randoms.now ≤ 128 }
-    ensures { IfOk result (λ v. variables_of v.items ≡ share_variables shares 0 inputs.now ++ random_variables 0 randoms.now) }
+    ensures variables { IfOk result (λ v. variables_of v.items ≡ share_variables shares 0 inputs.now ++ random_variables 0 randoms.now) }
+    ensures shares { IfOk result (λ v. All (HasShareBelow (length inputs.now) shares) v.items) }
 {
     let mut vars = share_vars(alloc, shares, inputs)?;
     extend_random_vars(alloc, &mut vars, randoms)?;

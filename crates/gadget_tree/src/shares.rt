@@ -1,8 +1,9 @@
 //! The names and the variables of shares.
 
-ghost use Rattle.std.specs.Prelude.{◌≡◌, ◌≤◌, ◌<◌, ◌+◌, ◌++◌, [], ◌↔◌, IfOk, IsTrue, ℕ, map, length, slice_index_or};
+ghost use Rattle.std.specs.Prelude.{All, ◌≡◌, ◌≤◌, ◌<◌, ◌+◌, ◌++◌, [], ◌↔◌, IfOk, IsTrue, ℕ, map, length, slice_index_or};
 ghost use Rattle.std.specs.List.{range_with_len};
-ghost use Rattle.gadget_tree.specs.LinearForm.{share_name, share_names, share_variables, shares_of_input, AreDistinct};
+ghost use Rattle.gadget_tree.specs.FlatForm.{share_name, share_names, share_variables, shares_of_input, AreDistinct};
+ghost use Rattle.gadget_tree.specs.Gadgets.{HasShareBelow};
 ghost use Rattle.gadget_tree.specs.Seen.{variables_of};
 
 use crate::name::Name;
@@ -82,7 +83,8 @@ fn push_share_vars(
     input: u8,
     stem: &[u8],
 ) -> Result<(), AllocError>
-    ensures { IfOk result (λ _. variables_of vars.new.items ≡ variables_of vars.old.items ++ shares_of_input shares input stem.now) }
+    ensures variables { IfOk result (λ _. variables_of vars.new.items ≡ variables_of vars.old.items ++ shares_of_input shares input stem.now) }
+    ensures shares { IfOk result (λ _. (inputs : ℕ) → input < inputs → All (HasShareBelow inputs shares) vars.old.items → All (HasShareBelow inputs shares) vars.new.items) }
 {
     for index in 0..shares {
         vars.push(Var {
@@ -97,7 +99,8 @@ fn push_share_vars(
 /// The variables of the input shares.
 pub(crate) fn share_vars(alloc: Global, shares: u8, inputs: &[Name]) -> Result<Vec<Var>, AllocError>
     requires { length inputs.now ≤ 4 }
-    ensures { IfOk result (λ v. variables_of v.items ≡ share_variables shares 0 inputs.now) }
+    ensures variables { IfOk result (λ v. variables_of v.items ≡ share_variables shares 0 inputs.now) }
+    ensures shares { IfOk result (λ v. All (HasShareBelow (length inputs.now) shares) v.items) }
 {
     let mut vars = Vec::new(alloc);
     for (input, stem) in inputs.iter().enumerate() {

@@ -11,7 +11,7 @@ const WITHOUT_LAST_LINE_FEED: &str = "#SHARES 2\n#IN a\n#OUT d\nd0 = a0 + a1\nd1
 const ONE_RANDOM: &str = "#SHARES 2\n#IN a\n#RANDOMS r0\n#OUT d\nd0 = a0 + r0\nd1 = a1 + r0\n";
 
 // Files, and the line at which each is refused.
-const REFUSED: [(&str, u32); 26] = [
+const REFUSED: [(&str, u32); 28] = [
     ("", 1),
     ("#SHARES 0\n#IN a\n#OUT d\n", 1),
     ("#SHARES 17\n#IN a\n#OUT d\n", 1),
@@ -29,7 +29,9 @@ const REFUSED: [(&str, u32); 26] = [
     ("#SHARES 2\n#IN a\n#RANDOMS d0\n#OUT d\n", 4),
     ("#SHARES 2\n#IN a\n#RANDOMS r0\n", 4),
     ("#SHARES 2\n#IN a\n#OUT d\n", 4),
-    ("#SHARES 2\n#IN a\n#OUT d\nd0 = a0 * a1\nd1 = a1\n", 4),
+    ("#SHARES 2\n#IN a\n#OUT d\nd0 = a0 & a1\nd1 = a1\n", 4),
+    ("#SHARES 2\n#IN a\n#OUT d\nd0 = a0 *\nd1 = a1\n", 4),
+    ("#SHARES 2\n#IN a\n#OUT d\nd0 = a0 + a1 * a1\nd1 = a1\n", 4),
     ("#SHARES 2\n#IN a\n#OUT d\nd0 = a0 + x\nd1 = a1\n", 4),
     ("#SHARES 2\n#IN a\n#OUT d\nd0 = a0  + a1\nd1 = a1\n", 4),
     ("#SHARES 2\n#IN a\n#OUT d\na1 = a0\n", 4),
@@ -111,6 +113,37 @@ fn reads_randoms(rt: HostRuntime) -> Result<(), Fail> {
     Ok(())
 }
 
+#[test]
+fn reads_products(rt: HostRuntime) -> Result<(), Fail> {
+    let text = "#SHARES 1\n#IN a b\n#OUT d\nd0 = a0 * b0\n";
+    assert!(rt; text.len() <= 1_048_576);
+    let gadget = read_gadget(rt.alloc(), text.as_bytes())?;
+    let vars = gadget.vars();
+    assert_eq!(rt; vars.len(), 3);
+    assert_eq!(rt; vars[2].kind, VarKind::Product(0, 1));
+    Ok(())
+}
+
+#[test]
+fn reads_shares_of_a_second_input(rt: HostRuntime) -> Result<(), Fail> {
+    let text = "#SHARES 2\n#IN a b\n#OUT d\nd0 = a0\nd1 = b1\n";
+    assert!(rt; text.len() <= 1_048_576);
+    let gadget = read_gadget(rt.alloc(), text.as_bytes())?;
+    let vars = gadget.vars();
+    assert_eq!(rt; vars.len(), 6);
+    let kinds = [vars[0].kind, vars[1].kind, vars[2].kind, vars[3].kind];
+    assert_eq!(rt;
+        kinds,
+        [
+            VarKind::Share { input: 0, index: 0 },
+            VarKind::Share { input: 0, index: 1 },
+            VarKind::Share { input: 1, index: 0 },
+            VarKind::Share { input: 1, index: 1 },
+        ]
+    );
+    Ok(())
+}
+
 // A file with so many randoms, all on line 3.
 fn file_with_randoms(alloc: Global, randoms: u8) -> Result<String, AllocError> {
     let mut text = String::from_str(alloc, "#SHARES 1\n#IN a\n#RANDOMS")?;
@@ -137,7 +170,7 @@ fn refuses_129_randoms(rt: HostRuntime) -> Result<(), Fail> {
     assert!(rt; text.len() <= 1_048_576);
     match read_gadget(rt.alloc(), text.as_bytes()) {
         Ok(_) => assert!(rt; false, "129 randoms were read"),
-        Err(error) => assert_eq!(rt; error, FileError::NotYet(3)),
+        Err(error) => assert_eq!(rt; error, FileError::Syntax(3)),
     }
     Ok(())
 }
@@ -164,7 +197,7 @@ fn refuses_files(rt: HostRuntime) {
         assert!(rt; text.len() <= 1_048_576);
         match read_gadget(rt.alloc(), text.as_bytes()) {
             Ok(_) => assert!(rt; false, "{text} was read"),
-            Err(error) => assert_eq!(rt; error, FileError::NotYet(line), "{text}"),
+            Err(error) => assert_eq!(rt; error, FileError::Syntax(line), "{text}"),
         }
     }
 }

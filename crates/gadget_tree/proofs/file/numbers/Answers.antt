@@ -1,7 +1,7 @@
 use Rattle.std.proofs.Common.{ℕ, ◌+◌, ◌++◌, List, [], ◌∷◌, take, get_or, ap, sym, subst, ◌∙◌, arith}
 use Rattle.std.specs.List.{AllZip}
 use Rattle.std.proofs.lemmas.List.{length-map, take_more}
-use Rattle.gadget_tree.specs.LinearForm.{IsNamed}
+use Rattle.gadget_tree.specs.FlatForm.{IsNamed}
 use Rattle.gadget_tree.specs.Seen.{variables_of, variable_of}
 use Rattle.gadget_tree.proofs.Lists.{AllZip-push}
 use Rattle.gadget_tree.proofs.Operations.{Contains-name_at}

@@ -1,6 +1,6 @@
 use Rattle.std.proofs.Common.{take}
 use Rattle.std.specs.List.{AllZip}
-use Rattle.gadget_tree.specs.LinearForm.{IsNamed}
+use Rattle.gadget_tree.specs.FlatForm.{IsNamed}
 use Rattle.gadget_tree.specs.Seen.{variables_of}
 use Rattle.gadget_tree.proofs.file.numbers.Given as goal
 

@@ -1,4 +1,4 @@
-use Rattle.gadget_tree.specs.LinearForm.{FileSays, lines_of}
+use Rattle.gadget_tree.specs.FlatForm.{FileSays, lines_of}
 use Rattle.gadget_tree.proofs.OneReading.{lines_once}
 use Rattle.gadget_tree.proofs.file.one_reading_law.Goals as goal
 

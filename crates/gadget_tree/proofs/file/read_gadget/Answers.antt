@@ -4,7 +4,7 @@ use Rattle.std.proofs.lemmas.List.{length-map}
 use Rattle.std.proofs.lemmas.List.Sums.{count_by-le-length}
 use Rattle.std.proofs.lemmas.List.Splits.{length-slice_split}
 use Rattle.std.proofs.lemmas.Result.{MatchResult-weaker}
-use Rattle.gadget_tree.specs.LinearForm.{FileSays, LinesSay, lines_of}
+use Rattle.gadget_tree.specs.FlatForm.{FileSays, LinesSay, lines_of}
 use Rattle.gadget_tree.specs.Refusals.{Refuses}
 use Rattle.gadget_tree.proofs.Texts.{texts, length-without_empty_last-le}
 use Rattle.gadget_tree.proofs.file.read_gadget.Goals as goal
@@ -28,9 +28,9 @@ returns-clause-ok c =
     MatchResult-weaker c.read_lines.result
     (subst (λ ls. MatchResult c.read_lines.result (λ g. LinesSay ls (Ok g)) (Refuses (λ line. LinesSay ls (Err line)))) e c.read_lines.ensures) (λ g h. h) (λ f h. tt)
 
-pub returns-clause-not_yet : goal.returns-clause-not_yet
+pub returns-clause-syntax : goal.returns-clause-syntax
 unfolding FileSays
-returns-clause-not_yet c =
+returns-clause-syntax c =
     let e : texts c.deref.result.now ≡ lines_of c.args.bytes.now = ap texts c.deref.ensures.value ∙ c.in_ok-lines.ensures in
     MatchResult-weaker c.read_lines.result
     (subst (λ ls. MatchResult c.read_lines.result (λ g. LinesSay ls (Ok g)) (Refuses (λ line. LinesSay ls (Err line)))) e c.read_lines.ensures) (λ g h. tt) (λ f h. h)

@@ -1,9 +1,10 @@
 use Rattle.std.proofs.Common.{◌+◌, ℕ, List, [], Bor, get_or, length, ap, subst, ◌∙◌, arith}
 use Rattle.std.proofs.lemmas.List.{length-map, length_push}
-use Rattle.gadget_tree.specs.LinearForm.{IsOperationLine, EndOfFile}
+use Rattle.gadget_tree.specs.FlatForm.{IsOperationLine, EndOfFile}
 use Rattle.gadget_tree.specs.Seen.{variables_of, variable_of}
 use Rattle.gadget_tree.proofs.NextLines.{reads_some}
 use Rattle.gadget_tree.proofs.OperationLines.{one_line_on, at_the_end}
+use Rattle.gadget_tree.proofs.SharesBelow.{below-push, assigned-below}
 use Rattle.gadget_tree.proofs.Variables.{variables_of-push}
 use Rattle.gadget_tree.proofs.file.read_operations.Goals as goal
 
@@ -25,10 +26,12 @@ loop-i-preserved c =
       going = λ headers inputs randoms outputs r h. c.loop-i.invariant.going headers inputs randoms outputs r
           (one_line_on (EndOfFile headers inputs randoms outputs r) ls r i (c.args.first + i) (c.args.first + (i + 1)) (variables_of vars) _ d (variable_of var) c.loop-i-test.true (omega arith)
           (ap variables_of c.in_ok-push.ensures.items ∙ variables_of-push vars var) said h);
+      shares = λ inputs shares h. below-push inputs shares vars _ var c.in_ok-push.ensures.items (c.loop-i.invariant.shares inputs shares h)
+          (assigned-below inputs shares (c.args.first + i) (variables_of vars) (get_or ls i d).now var said);
     }
 
-pub returns : goal.returns
-returns c = (
+pub returns-clause-said : goal.returns-clause-said
+returns-clause-said c = (
   c.loop-i.invariant.few,
   λ n inputs randoms outputs r h. c.loop-i.invariant.going n inputs randoms outputs r
       (at_the_end (EndOfFile n inputs randoms outputs r) c.args.lines.now r c.loop-i.i (c.args.first + c.loop-i.i) (c.args.first + length c.args.lines.now) (variables_of c.loop-i.vars.items) c.loop-i-test.false (omega arith) h),

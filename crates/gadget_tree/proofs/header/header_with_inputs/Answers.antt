@@ -1,5 +1,5 @@
 use Rattle.std.proofs.Common.{ℕ, List, [], get_or, drop, Bor, sym, subst, arith, MatchResult, Err}
-use Rattle.gadget_tree.specs.LinearForm.{IsRandomsLine, AfterRandoms, AfterIn}
+use Rattle.gadget_tree.specs.FlatForm.{IsRandomsLine, AfterRandoms, AfterIn}
 use Rattle.gadget_tree.specs.Reading.{IsHeader}
 use Rattle.gadget_tree.specs.Refusals.{Refuses}
 use Rattle.gadget_tree.proofs.NextLines.{reads_none, without_randoms, header_of}

@@ -1,5 +1,5 @@
 use Rattle.std.proofs.Common.{ℕ, List, [], get_or, drop, Bor, arith}
-use Rattle.gadget_tree.specs.LinearForm.{IsSharesLine, IsInLine, AfterIn, LinesSay}
+use Rattle.gadget_tree.specs.FlatForm.{IsSharesLine, IsInLine, AfterIn, LinesSay}
 use Rattle.gadget_tree.proofs.NextLines.{reads_some, reads_none, refused_at_2, behind_inputs, header_of}
 use Rattle.gadget_tree.proofs.Texts.{texts}
 use Rattle.gadget_tree.proofs.header.read_header.Goals as goal

@@ -2,7 +2,7 @@ use Rattle.std.proofs.Common.{ℕ, ap, sym, ◌∙◌, ◌≡◌, ◌≤◌, get
 use Rattle.std.specs.Prelude.{codes, decimal}
 use Rattle.std.proofs.lemmas.Bool.{not-false}
 use Rattle.std.proofs.lemmas.Slice.Eq.{bytes_eq-Decides}
-use Rattle.gadget_tree.specs.LinearForm.{IsSharesLine}
+use Rattle.gadget_tree.specs.FlatForm.{IsSharesLine}
 use Rattle.gadget_tree.proofs.HeaderLines.{reads_same, shares_line-says, shares_line-tests}
 use Rattle.gadget_tree.proofs.header.shares_line.Goals as goal
 

@@ -4,7 +4,7 @@ use Rattle.std.proofs.lemmas.Bool.{not-false, not-true}
 use Rattle.std.proofs.lemmas.Bool.Decides.{not_from_Decides}
 use Rattle.std.proofs.lemmas.Result.{IfOk-weaker}
 use Rattle.std.proofs.lemmas.Slice.Eq.{bytes_eq-Decides}
-use Rattle.gadget_tree.specs.LinearForm.{is_stem}
+use Rattle.gadget_tree.specs.FlatForm.{is_stem}
 use Rattle.gadget_tree.specs.Reading.{IsStemsLine}
 use Rattle.gadget_tree.proofs.Texts.{texts}
 use Rattle.gadget_tree.proofs.HeaderLines.{reads_same, stems_line-says, stems_line-tests}

@@ -1,6 +1,6 @@
 use Rattle.std.proofs.Common.{◌<◌, ◌≡◌, ◌∙◌, ◌-◌, sym, ap, length, get_or, List, ℕ, Bor, arith}
 use Rattle.std.proofs.lemmas.Bool.Decides.{Decides-eqb, not_from_Decides}
-use Rattle.gadget_tree.specs.LinearForm.{without_empty_last}
+use Rattle.gadget_tree.specs.FlatForm.{without_empty_last}
 use Rattle.gadget_tree.proofs.Texts.{without_empty_last-empty, without_empty_last-full, without_empty_last-none, texts}
 use Rattle.gadget_tree.proofs.lines.lines.Goals as goal
 use Rattle.gadget_tree.proofs.lines.lines.Goals.{then-count-eq0-via-then-count-eq0, then-count-eq0-via-else-count-eq0+then-not-is_empty}

@@ -1,11 +1,8 @@
-use Rattle.std.proofs.Common.{◌≡◌, ℕ, List, [], Bor, get_or, length, sym, subst, ◌∙◌, arith}
-use Rattle.std.specs.Prelude.{codes}
-use Rattle.std.proofs.lemmas.Bool.{not-false}
-use Rattle.std.proofs.lemmas.Slice.Eq.{bytes_eq-Decides}
-use Rattle.gadget_tree.specs.Reading.{Reads, IsSum, IsExpression}
+use Rattle.std.proofs.Common.{◌≡◌, ℕ, List, [], Bor, get_or, length, sym, subst, arith}
+use Rattle.gadget_tree.specs.Reading.{Reads, IsBinary, IsExpression}
 use Rattle.gadget_tree.specs.Seen.{variables_of, node_of}
 use Rattle.gadget_tree.proofs.HeaderLines.{reads_same}
-use Rattle.gadget_tree.proofs.Operations.{no_copy, sum_written, sum_read}
+use Rattle.gadget_tree.proofs.Operations.{no_copy, binary_written, binary_read}
 use Rattle.gadget_tree.proofs.Texts.{texts}
 use Rattle.gadget_tree.proofs.operation.expression.Goals as goal
 
@@ -22,5 +19,4 @@ returns c =
     let vs = variables_of c.args.vars.now in
     let ws = c.args.words.now in
     let three : length ws ≡ 3 = omega arith in
-    let plus : (get_or ws 1 d).now ≡ codes "+" = (bytes_eq-Decides (get_or ws 1 d).now c.as_slice.result.now).0 (not-false _ (sym c.ne.ensures ∙ c.if-ne.false)) ∙ c.as_slice.ensures in
-    reads_same node_of (IsSum vs (get_or ws 0 d).now (get_or ws 2 d).now) (IsExpression vs (texts ws)) c.sum.result (sum_written vs ws d three plus) (sum_read vs ws d three) c.sum.ensures
+    reads_same node_of (IsBinary vs (get_or ws 0 d).now (get_or ws 1 d).now (get_or ws 2 d).now) (IsExpression vs (texts ws)) c.binary.result (binary_written vs ws d three) (binary_read vs ws d three) c.binary.ensures

@@ -1,7 +1,7 @@
 use Rattle.std.proofs.Common.{◌≡◌, ◌<◌, length, sym, ◌∙◌, arith}
 use Rattle.std.specs.Prelude.{Contains}
 use Rattle.std.proofs.lemmas.List.{length-map}
-use Rattle.gadget_tree.specs.LinearForm.{names_of, name_at}
+use Rattle.gadget_tree.specs.FlatForm.{names_of, name_at}
 use Rattle.gadget_tree.specs.Seen.{variables_of, variable_of}
 use Rattle.gadget_tree.proofs.Operations.{Contains-name_at, is_none-decides}
 use Rattle.gadget_tree.proofs.operation.is_fresh_stem.Goals as goal

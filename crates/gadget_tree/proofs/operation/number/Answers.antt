@@ -1,7 +1,7 @@
 use Rattle.std.proofs.Common.{[], arith, ap, sym, ◌∙◌, below_more}
 use Rattle.std.proofs.lemmas.List.{get_or_default}
 use Rattle.gadget_tree.specs.declared.var.Var.{Var}
-use Rattle.gadget_tree.specs.LinearForm.{names_of}
+use Rattle.gadget_tree.specs.FlatForm.{names_of}
 use Rattle.gadget_tree.specs.Seen.{variables_of}
 use Rattle.gadget_tree.proofs.Variables.{name_at-variables_of, length-variables_of}
 use Rattle.gadget_tree.proofs.operation.number.Goals as goal

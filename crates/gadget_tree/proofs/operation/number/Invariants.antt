@@ -1,5 +1,5 @@
 use Rattle.std.proofs.Common.{◌≡◌, ℕ, ◌<◌, [], get_or}
-use Rattle.gadget_tree.specs.LinearForm.{names_of}
+use Rattle.gadget_tree.specs.FlatForm.{names_of}
 use Rattle.gadget_tree.specs.Seen.{variables_of}
 use Rattle.gadget_tree.proofs.operation.number.Given as goal
 

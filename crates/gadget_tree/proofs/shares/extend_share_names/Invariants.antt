@@ -1,5 +1,5 @@
 use Rattle.std.proofs.Common.{◌≡◌, ◌++◌, take}
-use Rattle.gadget_tree.specs.LinearForm.{share_names}
+use Rattle.gadget_tree.specs.FlatForm.{share_names}
 use Rattle.gadget_tree.proofs.shares.extend_share_names.Given as goal
 
 abbrev pub invariant-loop-stem : goal.invariant-loop-stem

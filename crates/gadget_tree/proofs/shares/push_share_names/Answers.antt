@@ -1,5 +1,5 @@
 use Rattle.std.proofs.Common.{◌∙◌}
-use Rattle.gadget_tree.specs.LinearForm.{share_name}
+use Rattle.gadget_tree.specs.FlatForm.{share_name}
 use Rattle.gadget_tree.proofs.Pushes.{map-range_push}
 use Rattle.gadget_tree.proofs.shares.push_share_names.Goals as goal
 

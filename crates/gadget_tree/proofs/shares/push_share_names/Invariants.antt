@@ -1,6 +1,6 @@
 use Rattle.std.proofs.Common.{◌≡◌, ◌++◌, map}
 use Rattle.std.specs.List.{range_with_len}
-use Rattle.gadget_tree.specs.LinearForm.{share_name}
+use Rattle.gadget_tree.specs.FlatForm.{share_name}
 use Rattle.gadget_tree.proofs.shares.push_share_names.Given as goal
 
 abbrev pub invariant-loop-index : goal.invariant-loop-index

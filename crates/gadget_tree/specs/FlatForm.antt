@@ -1,11 +1,12 @@
--- The linear form of a gadget file, and the first line that it does not allow at its place.
+-- The flat form of a gadget file, one operation a line, and the first line that it does not allow at its place.
 --
 --     #SHARES n         how many shares, from 1 to 16, without a leading zero
 --     #IN a b ..        one to four inputs; input a has the shares a0, a1, .. a(n-1)
 --     #RANDOMS r s ..   one to 128 randoms; a gadget without randoms has no such line
 --     #OUT d ..         one or two outputs, with shares named in the same way
 --     x = a             and then a line for each operation: a copy of an earlier variable,
---     x = a + b         or the sum of two
+--     x = a + b         the sum of two,
+--     x = a * b         or the product of two
 use Rattle.std.specs.Prelude.{◌≡◌, ◌≢◌, ℕ, suc, ◌+◌, ◌*◌, ◌<◌, ◌≤◌, ◌⊎◌, Bool, false, ◌&&◌, ◌||◌, ◌==◌, IsTrue, List, [], ◌∷◌, ◌++◌, map, length, slice_index_or, flat_map, All, AllPairs, Contains, Result, Ok, Err, codes, decimal}
 use Rattle.std.specs.List.{slice_split, list_all, range_with_len, AllZip}
 use Rattle.std.specs.Char.{is_ascii_alphabetic, is_ascii_digit}
@@ -96,13 +97,13 @@ abbrev pub random_variables : ℕ → List (List ℕ) → List Variable
 random_variables k [] = []
 random_variables k (stem ∷ stems) = record { name = stem; node = random k; line = 3 } ∷ random_variables (suc k) stems
 
--- the words write a node behind a name: `x = a` or `x = a + b`, with names of earlier variables
+-- the words write a node behind a name: `x = a`, `x = a + b` or `x = a * b`, with names of earlier variables
 abbrev pub WritesNode : List Variable → List (List ℕ) → List ℕ → Node → Type 0
 WritesNode earlier words x (share k) = ⊥
 WritesNode earlier words x (random k) = ⊥
 WritesNode earlier words x (copy a) = (a < length earlier) × (words ≡ x ∷ codes "=" ∷ name_at earlier a ∷ [])
 WritesNode earlier words x (sum_of a b) = (a < length earlier) × (b < length earlier) × (words ≡ x ∷ codes "=" ∷ name_at earlier a ∷ codes "+" ∷ name_at earlier b ∷ [])
-WritesNode earlier words x (product_of a b) = ⊥
+WritesNode earlier words x (product_of a b) = (a < length earlier) × (b < length earlier) × (words ≡ x ∷ codes "=" ∷ name_at earlier a ∷ codes "*" ∷ name_at earlier b ∷ [])
 
 -- the line assigns a variable: a stem that names no earlier one, and at most 511 variables in all
 pub record IsOperationLine (number : ℕ) (earlier : List Variable) (line : List ℕ) (v : Variable) : Type 0 where
@@ -120,9 +121,9 @@ IsNamed variables name v = (v < length variables) × (name_at variables v ≡ na
 abbrev pub AreOutputShares : ℕ → List (List ℕ) → List Variable → List ℕ → Type 0
 AreOutputShares n outputs variables output_shares = AllZip (IsNamed variables) (share_names n outputs) output_shares
 
--- a gadget of the linear form, with so many shares and randoms
-abbrev pub linear_gadget : ℕ → List (List ℕ) → ℕ → List (List ℕ) → List ℕ → List Variable → Circuit
-linear_gadget n inputs randoms outputs output_shares variables =
+-- a gadget of the flat form, with so many shares and randoms
+abbrev pub flat_gadget : ℕ → List (List ℕ) → ℕ → List (List ℕ) → List ℕ → List Variable → Circuit
+flat_gadget n inputs randoms outputs output_shares variables =
     record { shares = n; inputs = inputs; randoms = randoms; outputs = outputs; output_shares = output_shares; variables = variables }
 
 -- The next line is allowed, and what follows goes by what it says; or the file ends here or the line isn't allowed,
@@ -142,7 +143,7 @@ OperationLines End number earlier (line ∷ lines) r =
 abbrev pub EndOfFile : ℕ → List (List ℕ) → ℕ → List (List ℕ) → Result Circuit ℕ → ℕ → List Variable → Type 0
 EndOfFile n inputs randoms outputs r number variables =
     ((shares : List ℕ) × AreOutputShares n outputs variables shares
-    × (r ≡ Ok (linear_gadget n inputs randoms outputs shares variables)))
+    × (r ≡ Ok (flat_gadget n inputs randoms outputs shares variables)))
     ⊎ (((shares : List ℕ) → AreOutputShares n outputs variables shares → ⊥) × (r ≡ Err number))
 
 -- what is said behind the line `#OUT`, from the line with this number on
