@@ -1,0 +1,9 @@
+pub mod Sets
+pub mod Orders
+pub mod Cancelling
+pub mod OddOnes
+pub mod Copies
+pub mod Unions
+pub mod FewVariables
+pub mod SymmetricDifferences
+pub mod Occurrences

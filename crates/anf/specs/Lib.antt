@@ -1,0 +1,3 @@
+pub mod Polynomials
+pub mod Monomials
+pub mod Reduction
