@@ -1,0 +1,10 @@
+pub mod Monomials
+pub mod FitPolynomials
+pub mod TermSums
+pub mod Zips
+pub mod ShareRows
+pub mod Faults
+pub mod WirePolynomials
+pub mod ShareProducts
+pub mod MadeTables
+pub mod Pigeonhole
