@@ -1,168 +1,190 @@
--- From the law of elimination to the masks of the kernel: the union of what they take is the least set.
-use Rattle.std.proofs.Common.{◌≡◌, ◌↔◌, ℕ, zero, suc, ◌^◌, ◌<◌, Bool, List, [], ◌∷◌, map, length, get_or, refl, ap, sym, ◌∙◌, arith, subst}
+-- From the laws of elimination and of products to the masks of the kernel: what they leave is the least set.
+use Rattle.std.proofs.Common.{◌≡◌, ◌↔◌, ℕ, ◌/◌, ◌%◌, ◌^◌, ◌<◌, Bool, true, List, [], ◌∷◌, map, length, get_or, refl, ap, sym, ◌∙◌, arith, subst}
+use Rattle.std.specs.Prelude.{slice_index}
 use Rattle.std.specs.List.{All}
-use Rattle.std.proofs.lemmas.List.{length-map}
+use Rattle.std.specs.Int.{bit_at}
+use Rattle.std.proofs.lemmas.Bool.{eq-eqb, eqb-true}
+use Rattle.std.proofs.lemmas.List.{length-map, get_or-map}
+use Rattle.std.proofs.lemmas.List.Elements.{All-head, All-tail, All-map}
 use Rattle.gadget_model.specs.Bits.{add}
 use Rattle.gadget_model.specs.Circuit.{Circuit}
 use Rattle.gadget_model.specs.Simulation.{IsSimulatable, IsWithin, observation}
 use Rattle.bit_lists.specs.BitLists.{add_bits, chosen_sum}
+use Rattle.bit_lists.specs.SetSums.{set_sum}
+use Rattle.bit_lists.proofs.SetSums.{set_sum-zero}
 use Rattle.simulation_law.specs.Linear.{RandomsCancel}
 use Rattle.simulation_law.specs.Elimination.{IsFunctionOf, HasAdditiveRandoms}
 use Rattle.simulation_law.proofs.Elimination.{IsSimulatable-additive}
+use Rattle.simulation_law.proofs.Products.{IsFunctionOf-products}
 use Rattle.gf2_rows.specs.Combinations.{combine, choice_of, masked_sum, Cancels, SpanCancelling}
 use Rattle.gf2_rows.proofs.Combinations.{combine-below, length-choice_of, masked_sum-combine}
-use Rattle.needed.specs.declared.LinearRow.{LinearRow}
-use Rattle.needed.specs.SetSums.{set_sum}
-use Rattle.needed.specs.Rows.{random_at, StandFor, randoms_of, shares_of, union_of_masks}
-use Rattle.needed.proofs.SetSums.{set_sum-agree, set_sum-zero, chosen_sum-set_sums, IsWithin-set_sum}
+use Rattle.wire_table.specs.Tables.{Table, StandsFor, IsTable, random_at, shares_value}
+use Rattle.needed.specs.Sums.{random_rows_of, words_of, LeavesWithin}
+use Rattle.needed.proofs.SetSums.{chosen_sum-set_sums}
 use Rattle.needed.proofs.RandomSums.{random_sum-add_bits, zero_from_random_sums}
 use Rattle.needed.proofs.Choices.{mask_of}
-use Rattle.needed.proofs.Unions.{union_of_masks-within, union_of_masks-combine}
+use Rattle.needed.proofs.Words.{length-words_of}
+use Rattle.needed.proofs.ProductSums.{is_left, left_of, length-left_of, get_or-left_of, chosen_sum-shares, bit_from_combine}
 
--- what the shares of the rows add to the probes, at an input
-abbrev share_sums : List LinearRow → (ℕ → Bool) → List Bool
-share_sums rows x = map (λ set. set_sum 64 set x) (shares_of rows)
+-- what the products of shares add to the variables, at an input
+abbrev share_sums : Table → List ℕ → (ℕ → Bool) → List Bool
+share_sums t vars x = map (λ v. shares_value t v x) vars
 
--- what the randoms of the rows add to the probes, at an assignment of the n randoms
-abbrev random_sums : ℕ → List LinearRow → List Bool → List Bool
-random_sums n rows r = map (λ set. set_sum n set (random_at r)) (randoms_of rows)
+-- what the randoms add to the variables, at an assignment of the n randoms
+abbrev random_sums : Table → ℕ → List ℕ → List Bool → List Bool
+random_sums t n vars r = map (λ set. set_sum n set (random_at r)) (random_rows_of t vars)
 
-length-share_sums : (rows : List LinearRow) (x : ℕ → Bool) → length (share_sums rows x) ≡ length rows
-length-share_sums rows x = length-map (shares_of rows) (λ (set : ℕ). set_sum 64 set x) ∙ length-map rows (λ (row : LinearRow). row.shares)
+-- each of these lists is as long as that of the variables
+length-random_rows_of : (t : Table) (vars : List ℕ) → length (random_rows_of t vars) ≡ length vars
+length-random_rows_of t vars = length-map vars (slice_index t.random_rows)
 
-length-random_sums : (n : ℕ) (rows : List LinearRow) (r : List Bool) → length (random_sums n rows r) ≡ length rows
-length-random_sums n rows r =
-    length-map (randoms_of rows) (λ (set : ℕ). set_sum n set (random_at r)) ∙ length-map rows (λ (row : LinearRow). row.randoms)
+length-share_sums : (t : Table) (vars : List ℕ) (x : ℕ → Bool) → length (share_sums t vars x) ≡ length vars
+length-share_sums t vars x = length-map vars (λ (v : ℕ). shares_value t v x)
 
-random_sums-add_bits : (n : ℕ) (rows : List LinearRow) (r s : List Bool) →
-    random_sums n rows (add_bits r s) ≡ add_bits (random_sums n rows r) (random_sums n rows s)
-random_sums-add_bits n [] r s = refl
-random_sums-add_bits n (row ∷ rows) r s = let i = random_sums-add_bits n rows r s in let k = random_sum-add_bits n row.randoms r s in cc
+length-random_sums : (t : Table) (n : ℕ) (vars : List ℕ) (r : List Bool) → length (random_sums t n vars r) ≡ length vars
+length-random_sums t n vars r = length-map (random_rows_of t vars) (λ (set : ℕ). set_sum n set (random_at r)) ∙ length-random_rows_of t vars
 
-StandFor-length : (g : Circuit) (rows : List LinearRow) (probes : List ℕ) → StandFor g rows probes → length rows ≡ length probes
-StandFor-length g [] [] stand = refl
-StandFor-length g [] (v ∷ probes) stand = absurd stand
-StandFor-length g (row ∷ rows) [] stand = absurd stand
-StandFor-length g (row ∷ rows) (v ∷ probes) stand = ap suc (StandFor-length g rows probes stand.1)
+-- what the randoms add is linear in the assignment
+random_sums-add_bits : (t : Table) (n : ℕ) (vars : List ℕ) (r s : List Bool) →
+    random_sums t n vars (add_bits r s) ≡ add_bits (random_sums t n vars r) (random_sums t n vars s)
+random_sums-add_bits t n [] r s = refl
+random_sums-add_bits t n (v ∷ vars) r s = let i = random_sums-add_bits t n vars r s in let k = random_sum-add_bits n (slice_index t.random_rows v) r s in cc
 
-observation-rows : (g : Circuit) (rows : List LinearRow) (probes : List ℕ) → StandFor g rows probes → (x : ℕ → Bool) (r : List Bool) → length r ≡ g.randoms →
-    observation g probes x r ≡ add_bits (share_sums rows x) (random_sums g.randoms rows r)
-observation-rows g [] [] stand x r e = refl
-observation-rows g [] (v ∷ probes) stand x r e = absurd stand
-observation-rows g (row ∷ rows) [] stand x r e = absurd stand
-observation-rows g (row ∷ rows) (v ∷ probes) stand x r e =
-    ap (λ (b : Bool). b ∷ observation g probes x r) (stand.0.value x r e)
-    ∙ ap (λ (bits : List Bool). add (set_sum 64 row.shares x) (set_sum g.randoms row.randoms (random_at r)) ∷ bits) (observation-rows g rows probes stand.1 x r e)
+-- the variables are some of the table's
+abbrev AreThere : Table → List ℕ → Type 0
+AreThere t vars = All (λ v. v < length t.random_rows) vars
 
--- the randoms are additive in probes that rows stand for
-HasAdditiveRandoms-rows : (g : Circuit) (rows : List LinearRow) (probes : List ℕ) → StandFor g rows probes →
-    HasAdditiveRandoms g probes (share_sums rows) (random_sums g.randoms rows)
-HasAdditiveRandoms-rows g rows probes stand = record {
-  lengths = λ x. length-share_sums rows x ∙ StandFor-length g rows probes stand;
+-- the variables observe what the products add and what the randoms add
+observation-table : (t : Table) (g : Circuit) (vars : List ℕ) → StandsFor t g → AreThere t vars → (x : ℕ → Bool) (r : List Bool) → length r ≡ g.randoms →
+    observation g vars x r ≡ add_bits (share_sums t vars x) (random_sums t g.randoms vars r)
+observation-table t g [] stand there x r e = refl
+observation-table t g (v ∷ vars) stand there x r e =
+    let head : v < length t.random_rows = All-head (λ w. w < length t.random_rows) v vars there in
+    let every = stand.every_random_row in
+    ap (λ (b : Bool). b ∷ observation g vars x r) (stand.values v (omega arith) x r e)
+    ∙ ap (λ (bits : List Bool). add (shares_value t v x) (set_sum g.randoms (slice_index t.random_rows v) (random_at r)) ∷ bits)
+    (observation-table t g vars stand (All-tail (λ w. w < length t.random_rows) v vars there) x r e)
+
+-- the randoms are additive in variables of a gadget that the table stands for
+HasAdditiveRandoms-table : (t : Table) (g : Circuit) (vars : List ℕ) → StandsFor t g → AreThere t vars →
+    HasAdditiveRandoms g vars (share_sums t vars) (random_sums t g.randoms vars)
+HasAdditiveRandoms-table t g vars stand there = record {
+  lengths = length-share_sums t vars;
   linear = record {
-    lengths = λ r e. length-random_sums g.randoms rows r ∙ StandFor-length g rows probes stand;
-    sums = λ r s e e'. random_sums-add_bits g.randoms rows r s;
+    lengths = λ r e. length-random_sums t g.randoms vars r;
+    sums = λ r s e e'. random_sums-add_bits t g.randoms vars r s;
   };
-  observes = observation-rows g rows probes stand;
+  observes = observation-table t g vars stand there;
 }
 
-All-cons : {X : Type 0} (P : X → Type 0) (x : X) (xs : List X) → P x → All P xs → All P (x ∷ xs)
-All-cons P x xs h all zero d l = h
-All-cons P x xs h all (suc k) d l = all k d (omega arith)
+-- the random rows of variables have only randoms of the gadget
+random_rows_of-below : (t : Table) (n : ℕ) (vars : List ℕ) → All (λ row. row < 2 ^ n) t.random_rows → AreThere t vars → All (λ row. row < 2 ^ n) (random_rows_of t vars)
+random_rows_of-below t n vars rows there =
+    All-map (λ row. row < 2 ^ n) (slice_index t.random_rows) vars (λ k d l. rows (get_or vars k d) 0 (there k d l))
 
-StandFor-randoms : (g : Circuit) (rows : List LinearRow) (probes : List ℕ) → StandFor g rows probes → All (λ set. set < 2 ^ g.randoms) (randoms_of rows)
-StandFor-randoms g [] [] stand = λ k d l. absurd (omega arith)
-StandFor-randoms g [] (v ∷ probes) stand = absurd stand
-StandFor-randoms g (row ∷ rows) [] stand = absurd stand
-StandFor-randoms g (row ∷ rows) (v ∷ probes) stand =
-    All-cons (λ set. set < 2 ^ g.randoms) row.randoms (randoms_of rows) stand.0.randoms (StandFor-randoms g rows probes stand.1)
-
-StandFor-shares : (g : Circuit) (rows : List LinearRow) (probes : List ℕ) → StandFor g rows probes → All (λ set. set < 2 ^ 64) (shares_of rows)
-StandFor-shares g [] [] stand = λ k d l. absurd (omega arith)
-StandFor-shares g [] (v ∷ probes) stand = absurd stand
-StandFor-shares g (row ∷ rows) [] stand = absurd stand
-StandFor-shares g (row ∷ rows) (v ∷ probes) stand =
-    All-cons (λ set. set < 2 ^ 64) row.shares (shares_of rows) stand.0.shares (StandFor-shares g rows probes stand.1)
-
--- the randoms cancel in the chosen probes exactly where those of the chosen rows sum to nothing
-RandomsCancel-rows : (g : Circuit) (rows : List LinearRow) (probes : List ℕ) → StandFor g rows probes → (c : List Bool) →
-    RandomsCancel g.randoms (random_sums g.randoms rows) c ↔ (combine c (randoms_of rows) ≡ 0)
-RandomsCancel-rows g rows probes stand c =
-    let n = g.randoms in (
-      (λ cancel. zero_from_random_sums n (combine c (randoms_of rows)) (combine-below n c (randoms_of rows) (StandFor-randoms g rows probes stand))
-          (λ r e. sym (chosen_sum-set_sums n (random_at r) c (randoms_of rows)) ∙ cancel r e)),
-      (λ none r e.
-          chosen_sum-set_sums n (random_at r) c (randoms_of rows)
-          ∙ ap (λ (set : ℕ). set_sum n set (random_at r)) none
-          ∙ set_sum-zero n (random_at r)),
+-- the randoms cancel in the chosen variables exactly where their random rows sum to nothing
+RandomsCancel-table : (t : Table) (g : Circuit) (vars : List ℕ) → StandsFor t g → AreThere t vars → (c : List Bool) →
+    RandomsCancel g.randoms (random_sums t g.randoms vars) c ↔ (combine c (random_rows_of t vars) ≡ 0)
+RandomsCancel-table t g vars stand there c =
+    let n = g.randoms in
+    let rows = random_rows_of t vars in (
+      (λ cancel. zero_from_random_sums n (combine c rows) (combine-below n c rows (random_rows_of-below t n vars stand.randoms there))
+          (λ r e. sym (chosen_sum-set_sums n (random_at r) c rows) ∙ cancel r e)),
+      (λ none r e. chosen_sum-set_sums n (random_at r) c rows ∙ ap (λ (set : ℕ). set_sum n set (random_at r)) none ∙ set_sum-zero n (random_at r)),
     )
 
--- what the shares add to a sum of probes is a function of a set exactly where the shares that are left are within it
-IsFunctionOf-rows : (g : Circuit) (rows : List LinearRow) (probes : List ℕ) → StandFor g rows probes → (c : List Bool) (set : ℕ) →
-    IsFunctionOf (λ x. chosen_sum c (share_sums rows x)) set ↔ IsWithin (combine c (shares_of rows)) set
-IsFunctionOf-rows g rows probes stand c set =
-    let left = combine c (shares_of rows) in
-    let sums = λ (x : ℕ → Bool). chosen_sum-set_sums 64 x c (shares_of rows) in (
-      (λ function. IsWithin-set_sum 64 left set (combine-below 64 c (shares_of rows) (StandFor-shares g rows probes stand))
-          (λ x x' agree. sym (sums x) ∙ function x x' agree ∙ sums x')),
-      (λ within x x' agree. sums x ∙ set_sum-agree 64 left x x' (λ k h. agree k (within k h)) ∙ sym (sums x')),
+-- each product that is left in the sum of the chosen variables has its shares in a set
+abbrev ChoiceIsWithin : Table → List ℕ → List Bool → ℕ → Type 0
+ChoiceIsWithin t vars c set = (j : ℕ) → j < length t.products → is_left t vars c j ≡ true → IsWithin (slice_index t.products j) set
+
+-- what the shares add to a sum of variables is a function of a set exactly where the products that are left are within it
+IsFunctionOf-table : (t : Table) (g : Circuit) (vars : List ℕ) → StandsFor t g → IsTable t → (c : List Bool) (set : ℕ) →
+    IsFunctionOf (λ x. chosen_sum c (share_sums t vars x)) set ↔ ChoiceIsWithin t vars c set
+IsFunctionOf-table t g vars stand table c set =
+    let law = IsFunctionOf-products t.products (left_of t vars c) set stand.distinct table.small_products (length-left_of t vars c) in
+    let sums = chosen_sum-shares t c vars in (
+      (λ function j l left. law.0 (λ x x' agree. sym (sums x) ∙ function x x' agree ∙ sums x') j l (get_or-left_of t vars c j l ∙ left)),
+      (λ within x x' agree. sums x ∙ law.1 (λ j l left. within j l (sym (get_or-left_of t vars c j l) ∙ left)) x x' agree ∙ sym (sums x')),
     )
 
--- in each choice of rows whose randoms cancel, the shares that are left are within a set
-abbrev CancelWithin : List LinearRow → ℕ → Type 0
-CancelWithin rows set = (c : List Bool) → length c ≡ length rows → combine c (randoms_of rows) ≡ 0 → IsWithin (combine c (shares_of rows)) set
+-- in each choice of variables whose randoms cancel, the products that are left are within a set
+abbrev CancelWithin : Table → List ℕ → ℕ → Type 0
+CancelWithin t vars set = (c : List Bool) → length c ≡ length vars → combine c (random_rows_of t vars) ≡ 0 → ChoiceIsWithin t vars c set
 
-IsSimulatable-rows : (g : Circuit) (rows : List LinearRow) (probes : List ℕ) (set : ℕ) → StandFor g rows probes → IsSimulatable g probes set ↔ CancelWithin rows set
-IsSimulatable-rows g rows probes set stand =
-    let law = IsSimulatable-additive g probes (share_sums rows) (random_sums g.randoms rows) set (HasAdditiveRandoms-rows g rows probes stand) in
-    let lengths = StandFor-length g rows probes stand in (
-      (λ simulatable c e none.
-          (IsFunctionOf-rows g rows probes stand c set).0 (law.0 simulatable c (e ∙ lengths) ((RandomsCancel-rows g rows probes stand c).1 none))),
-      (λ within. law.1 (λ c e cancel.
-          (IsFunctionOf-rows g rows probes stand c set).1 (within c (e ∙ sym lengths) ((RandomsCancel-rows g rows probes stand c).0 cancel)))),
+-- the variables are simulatable from a set exactly where that is so
+IsSimulatable-table : (t : Table) (g : Circuit) (vars : List ℕ) (set : ℕ) → StandsFor t g → IsTable t → AreThere t vars →
+    IsSimulatable g vars set ↔ CancelWithin t vars set
+IsSimulatable-table t g vars set stand table there =
+    let law = IsSimulatable-additive g vars (share_sums t vars) (random_sums t g.randoms vars) set (HasAdditiveRandoms-table t g vars stand there) in (
+      (λ simulatable c e none. (IsFunctionOf-table t g vars stand table c set).0 (law.0 simulatable c e ((RandomsCancel-table t g vars stand there c).1 none))),
+      (λ within. law.1 (λ c e cancel. (IsFunctionOf-table t g vars stand table c set).1 (within c e ((RandomsCancel-table t g vars stand there c).0 cancel)))),
     )
 
--- the lists of randoms and shares are as long as that of the rows
-length-randoms_of : (rows : List LinearRow) → length (randoms_of rows) ≡ length rows
-length-randoms_of rows = length-map rows (λ (row : LinearRow). row.randoms)
+-- the sum that a mask takes of the words is that of its choice of the variables
+masked_sum-words_of : (t : Table) (vars : List ℕ) (mask k : ℕ) → masked_sum mask (words_of t vars k) ≡ combine (choice_of (length vars) mask) (words_of t vars k)
+masked_sum-words_of t vars mask k = ap (λ (n : ℕ). combine (choice_of n mask) (words_of t vars k)) (length-words_of t vars k)
 
-length-shares_of : (rows : List LinearRow) → length (shares_of rows) ≡ length rows
-length-shares_of rows = length-map rows (λ (row : LinearRow). row.shares)
+-- what a mask that cancels leaves is within the set
+LeavesWithin-cancelling : (t : Table) (vars : List ℕ) (set : ℕ) → CancelWithin t vars set → (mask : ℕ) → Cancels (random_rows_of t vars) mask → LeavesWithin t vars mask set
+LeavesWithin-cancelling t vars set within mask cancels j l one =
+    let c = choice_of (length vars) mask in
+    let none : combine c (random_rows_of t vars) ≡ 0 = ap (λ (n : ℕ). combine (choice_of n mask) (random_rows_of t vars)) (sym (length-random_rows_of t vars)) ∙ cancels in
+    within c (length-choice_of (length vars) mask) none j l
+    (eq-eqb (bit_at (combine c (words_of t vars (j / 64))) (j % 64)) 1 (ap (λ (word : ℕ). bit_at word (j % 64)) (sym (masked_sum-words_of t vars mask (j / 64))) ∙ one))
 
--- what a mask that cancels takes of the shares is within the set
-masked_sum-within : (rows : List LinearRow) (set : ℕ) → CancelWithin rows set → (mask : ℕ) → Cancels (randoms_of rows) mask → IsWithin (masked_sum mask (shares_of rows)) set
-masked_sum-within rows set within mask cancels =
-    let c = choice_of (length rows) mask in
-    let none : combine c (randoms_of rows) ≡ 0 = ap (λ (n : ℕ). combine (choice_of n mask) (randoms_of rows)) (sym (length-randoms_of rows)) ∙ cancels in
-    let same : combine c (shares_of rows) ≡ masked_sum mask (shares_of rows) =
-    ap (λ (n : ℕ). combine (choice_of n mask) (shares_of rows)) (sym (length-shares_of rows)) in
-    subst (λ (s : ℕ). IsWithin s set) same (within c (length-choice_of (length rows) mask) none)
+-- the sums of masks whose sum is the mask of a choice sum to what the choice takes
+combine-spanned : (n : ℕ) (c : List Bool) (words masks : List ℕ) (mask : ℕ) (sum : List Bool) → length words ≡ n → choice_of n mask ≡ c → mask ≡ combine sum masks →
+    combine sum (map (λ m. masked_sum m words) masks) ≡ combine c words
+combine-spanned n c words masks mask sum size same spanned =
+    sym (masked_sum-combine sum masks words)
+    ∙ ap (λ (m : ℕ). masked_sum m words) (sym spanned)
+    ∙ ap (λ (k : ℕ). combine (choice_of k mask) words) size
+    ∙ ap (λ (b : List Bool). combine b words) same
 
--- the union of what the masks of the kernel take is the least set
-pub IsSimulatable-union : (g : Circuit) (rows : List LinearRow) (probes masks : List ℕ) (set : ℕ) → StandFor g rows probes →
-    All (Cancels (randoms_of rows)) masks → SpanCancelling (randoms_of rows) masks →
-    IsSimulatable g probes set ↔ IsWithin (union_of_masks (shares_of rows) masks) set
-IsSimulatable-union g rows probes masks set stand cancel whole =
-    let law = IsSimulatable-rows g rows probes set stand in (
-      (λ simulatable. union_of_masks-within (shares_of rows) masks set (λ k d l. masked_sum-within rows set (law.0 simulatable) (get_or masks k d) (cancel k d l))),
-      (λ within. law.1 (λ c e none.
-          let lengths : length (randoms_of rows) ≡ length rows = length-randoms_of rows in
-          let m = mask_of (length (randoms_of rows)) c (e ∙ sym lengths) in
-          let sum = whole m.0 m.1.0 (ap (λ (b : List Bool). combine b (randoms_of rows)) m.1.1 ∙ none) in
-          let same : combine sum.0 (map (λ mask. masked_sum mask (shares_of rows)) masks) ≡ combine c (shares_of rows) =
-          sym (masked_sum-combine sum.0 masks (shares_of rows))
-          ∙ ap (λ (z : ℕ). masked_sum z (shares_of rows)) (sym sum.2)
-          ∙ ap (λ (n : ℕ). combine (choice_of n m.0) (shares_of rows)) (length-shares_of rows ∙ sym lengths)
-          ∙ ap (λ (b : List Bool). combine b (shares_of rows)) m.1.1 in
-          subst (λ (s : ℕ). IsWithin s set) same (union_of_masks-combine (shares_of rows) masks set within sum.0))),
+-- equal numbers have the same bits
+bit_along : {a b : ℕ} (i : ℕ) → a ≡ b → bit_at b i ≡ 1 → bit_at a i ≡ 1
+bit_along i same one = ap (λ (number : ℕ). bit_at number i) same ∙ one
+
+-- a bit of a sum of what masks take is a bit of what one of them takes
+bit_from_sums : (sum : List Bool) (words masks : List ℕ) (i : ℕ) → bit_at (combine sum (map (λ m. masked_sum m words) masks)) i ≡ 1 →
+    (k : ℕ) × (k < length masks) × (bit_at (masked_sum (get_or masks k 0) words) i ≡ 1)
+bit_from_sums sum words masks i one =
+    let found = bit_from_combine sum (map (λ m. masked_sum m words) masks) i one in
+    let size = length-map masks (λ (m : ℕ). masked_sum m words) in
+    let less : found.0 < length masks = omega arith in
+    (found.0, less, ap (λ (word : ℕ). bit_at word i) (sym (get_or-map (λ (m : ℕ). masked_sum m words) masks found.0 0 0 less)) ∙ found.2)
+
+-- a product that is left in a choice that cancels is left by one of the masks that span such choices
+left_by_mask : (t : Table) (vars masks : List ℕ) → SpanCancelling (random_rows_of t vars) masks → (c : List Bool) → length c ≡ length vars →
+    combine c (random_rows_of t vars) ≡ 0 → (j : ℕ) → is_left t vars c j ≡ true →
+    (k : ℕ) × (k < length masks) × (bit_at (masked_sum (get_or masks k 0) (words_of t vars (j / 64))) (j % 64) ≡ 1)
+left_by_mask t vars masks whole c size none j left =
+    let rows = random_rows_of t vars in
+    let words = words_of t vars (j / 64) in
+    let m = mask_of (length rows) c (size ∙ sym (length-random_rows_of t vars)) in
+    let sum = whole m.0 m.1.0 (ap (λ (b : List Bool). combine b rows) m.1.1 ∙ none) in
+    let same = combine-spanned (length rows) c words masks m.0 sum.0 (length-words_of t vars (j / 64) ∙ sym (length-random_rows_of t vars)) m.1.1 sum.2 in
+    bit_from_sums sum.0 words masks (j % 64) (bit_along (j % 64) same (eqb-true (bit_at (combine c words) (j % 64)) 1 left))
+
+-- the variables are simulatable from a set exactly where what each mask of the kernel leaves is within it
+pub IsSimulatable-masks : (t : Table) (g : Circuit) (vars masks : List ℕ) (set : ℕ) → StandsFor t g → IsTable t → AreThere t vars →
+    All (Cancels (random_rows_of t vars)) masks → SpanCancelling (random_rows_of t vars) masks →
+    IsSimulatable g vars set ↔ All (λ mask. LeavesWithin t vars mask set) masks
+IsSimulatable-masks t g vars masks set stand table there cancel whole =
+    let law = IsSimulatable-table t g vars set stand table there in (
+      (λ simulatable k d l. LeavesWithin-cancelling t vars set (law.0 simulatable) (get_or masks k d) (cancel k d l)),
+      (λ within. law.1 (λ c e none j l left.
+          let by = left_by_mask t vars masks whole c e none j left in
+          within by.0 0 by.1 j l by.2)),
     )
 
--- the same, for what the call found: the randoms that it copied, and the union that it answers
-pub least_from_kernel : (g : Circuit) (rows : List LinearRow) (probes masks : List ℕ) (set : ℕ) → StandFor g rows probes →
-    (copied : List ℕ) → copied ≡ randoms_of rows → All (Cancels copied) masks → SpanCancelling copied masks →
-    (answer : ℕ) → answer ≡ union_of_masks (shares_of rows) masks → IsSimulatable g probes set ↔ IsWithin answer set
-least_from_kernel g rows probes masks set stand copied e cancel whole answer f =
-    subst (λ (a : ℕ). IsSimulatable g probes set ↔ IsWithin a set) (sym f)
-    (IsSimulatable-union g rows probes masks set stand
-    (subst (λ (sets : List ℕ). All (Cancels sets) masks) e cancel)
-    (subst (λ (sets : List ℕ). SpanCancelling sets masks) e whole))
+-- the same, for what the call found: the randoms that it copied, its masks, and the union that it answers
+pub least_from_kernel : (t : Table) (g : Circuit) (vars masks given : List ℕ) (answer set : ℕ) → StandsFor t g → IsTable t → AreThere t vars →
+    (copied : List ℕ) → copied ≡ random_rows_of t vars → All (Cancels copied) masks → SpanCancelling copied masks → given ≡ masks →
+    IsWithin answer set ↔ All (λ mask. LeavesWithin t vars mask set) given → IsSimulatable g vars set ↔ IsWithin answer set
+least_from_kernel t g vars masks given answer set stand table there copied e cancel whole same union =
+    let law = IsSimulatable-masks t g vars masks set stand table there
+    (subst (λ (rows : List ℕ). All (Cancels rows) masks) e cancel)
+    (subst (λ (rows : List ℕ). SpanCancelling rows masks) e whole) in
+    let joined = subst (λ (ms : List ℕ). IsWithin answer set ↔ All (λ mask. LeavesWithin t vars mask set) ms) same union in
+    ((λ simulatable. joined.1 (law.0 simulatable)), (λ within. law.1 (joined.0 within)))

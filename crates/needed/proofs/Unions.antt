@@ -1,72 +1,122 @@
--- The union of the sums that masks take is within a set exactly where each of them is.
-use Rattle.std.proofs.Common.{ℕ, Bool, true, false, List, [], ◌∷◌, map, ap, sym, ◌∙◌, inl, inr, arith}
-use Rattle.std.specs.Prelude.{bit_xor, bit_or, fold}
-use Rattle.std.specs.List.{All}
+-- Unions of sets: a union is within a set exactly where each of its parts is.
+use Rattle.std.proofs.Common.{◌≡◌, ◌↔◌, ℕ, ◌+◌, ◌-◌, ◌*◌, ◌/◌, ◌%◌, ◌<◌, ◌≤◌, true, eqb, List, length, take, get_or, ap, sym, ◌∙◌, inl, inr, arith, subst}
+use Rattle.std.specs.Prelude.{bit_and, bit_or, All, slice_index}
 use Rattle.std.specs.Int.{bit_at}
-use Rattle.std.proofs.lemmas.Nat.{xor_comm}
+use Rattle.std.proofs.lemmas.Bool.{cases_lt, cases_eq, eq-eqb, eqb-true, false≢true}
+use Rattle.std.proofs.lemmas.List.{get_or-take, get_or_past, length-take-le}
+use Rattle.std.proofs.lemmas.List.Elements.{All-more}
 use Rattle.std.proofs.lemmas.Nat.Bits.{bit_at-lt, bit_at_or, bit_at-zero}
-use Rattle.std.proofs.lemmas.List.Elements.{All-tail}
 use Rattle.gadget_model.specs.Simulation.{IsWithin}
-use Rattle.gf2_rows.specs.Combinations.{combine, masked_sum}
-use Rattle.std.proofs.lemmas.List.Elements.{All-head}
-use Rattle.gf2_rows.proofs.Combinations.{bit_cases, bit_at-xor_zero}
-use Rattle.needed.specs.Rows.{union_of_masks}
+use Rattle.bit_lists.proofs.NumberBits.{bit_cases}
+use Rattle.wire_table.specs.Tables.{has_bit}
+use Rattle.needed.specs.Sums.{RowIsWithin, WordIsWithin}
+use Rattle.needed.proofs.LowestBits.{IsLowest, bit_at-without_lowest, bit_from_rest}
 
-IsWithin-zero : (set : ℕ) → IsWithin 0 set
+-- the empty set is within each set
+pub IsWithin-zero : (set : ℕ) → IsWithin 0 set
 IsWithin-zero set k h = absurd (let z = bit_at-zero k in omega arith)
 
-IsWithin-xor : (a b set : ℕ) → IsWithin a set → IsWithin b set → IsWithin (bit_xor a b) set
-IsWithin-xor a b set ha hb k h = elim (bit_cases a k) [
-  | inr one ↦ ha k one
-  | inl none ↦ hb k (sym (ap (λ (z : ℕ). bit_at z k) (xor_comm a b) ∙ bit_at-xor_zero b a k none) ∙ h)
-]
+-- a union of two sets is within a set exactly where both are
+pub IsWithin-or : (a b set : ℕ) → IsWithin (bit_or a b) set ↔ (IsWithin a set × IsWithin b set)
+IsWithin-or a b set = (
+  (λ h. (
+    (λ k one. h k (bit_at_or a b k ∙ (let l = bit_at-lt b k in omega arith))),
+    (λ k one. h k (bit_at_or a b k ∙ (let l = bit_at-lt a k in omega arith))),
+  )),
+  (λ h k one. elim (bit_cases a k) [
+    | inr has ↦ h.0 k has
+    | inl none ↦ h.1 k (let e = bit_at_or a b k in omega arith)
+  ]),
+)
 
-IsWithin-or : (a b set : ℕ) → IsWithin a set → IsWithin b set → IsWithin (bit_or a b) set
-IsWithin-or a b set ha hb k h = elim (bit_cases a k) [
-  | inr one ↦ ha k one
-  | inl none ↦ hb k (let e = bit_at_or a b k in omega arith)
-]
+-- the shares of the product of a word's lowest one, and the word without it, in place of the word
+pub WordIsWithin-lowest : (products : List ℕ) (first word low union set : ℕ) → IsLowest word low → low < 64 → first + low < length products →
+    (IsWithin (bit_or union (slice_index products (first + low))) set × WordIsWithin products first (bit_and word (word - 1)) set)
+    ↔ (IsWithin union set × WordIsWithin products first word set)
+WordIsWithin-lowest products first word low union set h less there =
+    let parts = IsWithin-or union (slice_index products (first + low)) set in (
+      (λ within. (
+        (parts.0 within.0).0,
+        (λ bit l m has. elim (cases_eq bit low) [
+          | inl e ↦ subst (λ (b : ℕ). IsWithin (slice_index products (first + b)) set) (sym e) (parts.0 within.0).1
+          | inr other ↦ within.1 bit l m (bit_at-without_lowest word low bit h other ∙ has)
+        ]),
+      )),
+      (λ within. (parts.1 (within.0, within.1 low less there h.one), (λ bit l m has. within.1 bit l m (bit_from_rest word low bit h has)))),
+    )
 
-IsWithin-from_or_left : (a b set : ℕ) → IsWithin (bit_or a b) set → IsWithin a set
-IsWithin-from_or_left a b set h k one = h k (bit_at_or a b k ∙ (let l = bit_at-lt b k in omega arith))
+-- a lowest one that stands for no product
+pub WordIsWithin-past : (products : List ℕ) (first word low set : ℕ) → IsLowest word low → length products ≤ first + low →
+    WordIsWithin products first (bit_and word (word - 1)) set ↔ WordIsWithin products first word set
+WordIsWithin-past products first word low set h past = (
+  (λ within bit l m has. elim (cases_eq bit low) [
+    | inl e ↦ absurd (omega arith)
+    | inr other ↦ within bit l m (bit_at-without_lowest word low bit h other ∙ has)
+  ]),
+  (λ within bit l m has. within bit l m (bit_from_rest word low bit h has)),
+)
 
-IsWithin-from_or_right : (a b set : ℕ) → IsWithin (bit_or a b) set → IsWithin b set
-IsWithin-from_or_right a b set h k one = h k (bit_at_or a b k ∙ (let l = bit_at-lt a k in omega arith))
+-- each product that one of the first n words of a row has is within a set
+abbrev pub WordsAreWithin : List ℕ → List ℕ → ℕ → ℕ → Type 0
+WordsAreWithin products row n set = (j : ℕ) → j < length products → j < 64 * n → has_bit row j ≡ true → IsWithin (slice_index products j) set
 
--- the union of further sums with a set
-abbrev joined : List ℕ → ℕ → List ℕ → ℕ
-joined sets start masks = fold (λ union mask. bit_or union (masked_sum mask sets)) start masks
+-- no word has any
+pub WordsAreWithin-zero : (products row : List ℕ) (set : ℕ) → IsWithin 0 set ↔ WordsAreWithin products row 0 set
+WordsAreWithin-zero products row set = ((λ h j l m. absurd (omega arith)), (λ h. IsWithin-zero set))
 
-joined-within : (sets masks : List ℕ) (start set : ℕ) → IsWithin start set → All (λ mask. IsWithin (masked_sum mask sets) set) masks → IsWithin (joined sets start masks) set
-joined-within sets [] start set h all = h
-joined-within sets (mask ∷ masks) start set h all =
-    joined-within sets masks (bit_or start (masked_sum mask sets)) set
-    (IsWithin-or start (masked_sum mask sets) set h (All-head (λ m. IsWithin (masked_sum m sets) set) mask masks all))
-    (All-tail (λ m. IsWithin (masked_sum m sets) set) mask masks all)
+-- all words have those of the row
+pub WordsAreWithin-all : (products row : List ℕ) (n set : ℕ) → length row ≤ n → WordsAreWithin products row n set ↔ RowIsWithin products row set
+WordsAreWithin-all products row n set past = (
+  (λ h j l has. h j l (elim (cases_lt (j / 64) (length row)) [
+    | inl inside ↦ omega arith
+    | inr outside ↦ absurd (false≢true (sym (ap (λ (word : ℕ). eqb (bit_at word (j % 64)) 1) (get_or_past row (j / 64) 0 outside)
+        ∙ ap (λ (b : ℕ). eqb b 1) (bit_at-zero (j % 64))) ∙ has))
+  ]) has),
+  (λ h j l m has. h j l has),
+)
 
-joined-start : (sets masks : List ℕ) (start set : ℕ) → IsWithin (joined sets start masks) set → IsWithin start set
-joined-start sets [] start set h = h
-joined-start sets (mask ∷ masks) start set h =
-    IsWithin-from_or_left start (masked_sum mask sets) set (joined-start sets masks (bit_or start (masked_sum mask sets)) set h)
+-- the union with that of one word more
+pub WordsAreWithin-more : (products row : List ℕ) (place union shares : ℕ) →
+    ((set : ℕ) → IsWithin union set ↔ WordsAreWithin products row place set) →
+    ((set : ℕ) → IsWithin shares set ↔ WordIsWithin products (64 * place) (get_or row place 0) set) →
+    (set : ℕ) → IsWithin (bit_or union shares) set ↔ WordsAreWithin products row (place + 1) set
+WordsAreWithin-more products row place union shares h one set =
+    let parts = IsWithin-or union shares set in (
+      (λ within j l m has. elim (cases_lt j (64 * place)) [
+        | inl earlier ↦ (h set).0 (parts.0 within).0 j l earlier has
+        | inr here ↦
+            let e : j / 64 ≡ place = omega arith in
+            let e' : 64 * place + j % 64 ≡ j = omega arith in
+            let bit : bit_at (get_or row place 0) (j % 64) ≡ 1 =
+            ap (λ (k : ℕ). bit_at (get_or row k 0) (j % 64)) (sym e) ∙ eqb-true (bit_at (get_or row (j / 64) 0) (j % 64)) 1 has in
+            subst (λ (i : ℕ). IsWithin (slice_index products i) set) e' ((one set).0 (parts.0 within).1 (j % 64) (omega arith) (omega arith) bit)
+      ]),
+      (λ each. parts.1 (
+        (h set).1 (λ j l m has. each j l (omega arith) has),
+        (one set).1 (λ bit low l has.
+            let e : (64 * place + bit) / 64 ≡ place = omega arith in
+            let e' : (64 * place + bit) % 64 ≡ bit = omega arith in
+            each (64 * place + bit) l (omega arith)
+            (eq-eqb (bit_at (get_or row ((64 * place + bit) / 64) 0) ((64 * place + bit) % 64)) 1
+            (ap (λ (k : ℕ). bit_at (get_or row k 0) ((64 * place + bit) % 64)) e ∙ ap (bit_at (get_or row place 0)) e' ∙ has))),
+      )),
+    )
 
--- what is in a sum of some of the sums is in their union
-joined-combine : (sets masks : List ℕ) (start set : ℕ) → IsWithin (joined sets start masks) set → (c : List Bool) →
-    IsWithin (combine c (map (λ mask. masked_sum mask sets) masks)) set
-joined-combine sets masks start set h [] = IsWithin-zero set
-joined-combine sets [] start set h (b ∷ c) = IsWithin-zero set
-joined-combine sets (mask ∷ masks) start set h (true ∷ c) =
-    IsWithin-xor (masked_sum mask sets) (combine c (map (λ m. masked_sum m sets) masks)) set
-    (IsWithin-from_or_right start (masked_sum mask sets) set (joined-start sets masks (bit_or start (masked_sum mask sets)) set h))
-    (joined-combine sets masks (bit_or start (masked_sum mask sets)) set h c)
-joined-combine sets (mask ∷ masks) start set h (false ∷ c) =
-    IsWithin-xor 0 (combine c (map (λ m. masked_sum m sets) masks)) set (IsWithin-zero set)
-    (joined-combine sets masks (bit_or start (masked_sum mask sets)) set h c)
-
--- the union is within a set that each of the sums is within
-pub union_of_masks-within : (sets masks : List ℕ) (set : ℕ) → All (λ mask. IsWithin (masked_sum mask sets) set) masks → IsWithin (union_of_masks sets masks) set
-union_of_masks-within sets masks set all = joined-within sets masks 0 set (IsWithin-zero set) all
-
--- each sum of the sums is within a set that the union is within
-pub union_of_masks-combine : (sets masks : List ℕ) (set : ℕ) → IsWithin (union_of_masks sets masks) set → (c : List Bool) →
-    IsWithin (combine c (map (λ mask. masked_sum mask sets) masks)) set
-union_of_masks-combine sets masks set h c = joined-combine sets masks 0 set h c
+-- The union of what the masks of a list leave, with one mask more. P says of a mask that what it leaves is within a set.
+pub union_more : (P : ℕ → ℕ → Type 0) (masks : List ℕ) (i union shares : ℕ) → i < length masks →
+    ((set : ℕ) → IsWithin union set ↔ All (λ mask. P mask set) (take i masks)) →
+    ((set : ℕ) → IsWithin shares set ↔ P (get_or masks i 0) set) →
+    (set : ℕ) → IsWithin (bit_or union shares) set ↔ All (λ mask. P mask set) (take (i + 1) masks)
+union_more P masks i union shares l h one set =
+    let parts = IsWithin-or union shares set in (
+      (λ within. All-more (λ mask. P mask set) masks i 0 l ((h set).0 (parts.0 within).0) ((one set).0 (parts.0 within).1)),
+      (λ each.
+          let size : length (take (i + 1) masks) ≡ i + 1 = length-take-le (i + 1) masks (omega arith) in
+          let fewer : length (take i masks) ≡ i = length-take-le i masks (omega arith) in
+          let at : (k : ℕ) (d : ℕ) → k < i + 1 → P (get_or masks k d) set =
+          λ k d m. subst (λ (mask : ℕ). P mask set) (get_or-take (i + 1) masks k d m) (each k d (omega arith)) in
+          parts.1 (
+            (h set).1 (λ k d m. subst (λ (mask : ℕ). P mask set) (sym (get_or-take i masks k d (omega arith))) (at k d (omega arith))),
+            (one set).1 (at i 0 (omega arith)),
+          )),
+    )

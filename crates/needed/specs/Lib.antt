@@ -1,3 +1,1 @@
-pub mod SetSums
-pub mod Rows
-pub mod GadgetRows
+pub mod Sums

@@ -1,73 +1,63 @@
-//! The least set of input shares from which sums of randoms and input shares can be simulated.
+//! The least set of input shares from which variables of a gadget can be simulated.
 #![tactic(auto)]
 
-ghost use Rattle.std.specs.Prelude.{◌≡◌, ◌≤◌, ◌↔◌, ℕ, List, length, take};
+ghost use Rattle.std.specs.Prelude.{◌≡◌, ◌≤◌, ◌<◌, ◌↔◌, ℕ, List, All, length, take};
 ghost use Rattle.gadget_model.specs.Circuit.{Circuit};
 ghost use Rattle.gadget_model.specs.Simulation.{IsSimulatable, IsWithin};
-ghost use Rattle.gf2_rows.specs.Combinations.{masked_sum};
-ghost use Rattle.needed.specs.Rows.{StandFor, randoms_of, shares_of, union_of_masks};
+ghost use Rattle.wire_table.specs.Tables.{StandsFor, IsTable};
+ghost use Rattle.needed.specs.Sums.{random_rows_of, LeavesWithin};
 
-mod gadget_rows;
+mod scratch;
+mod sums;
 
-pub use gadget_rows::linear_rows;
 use gf2_rows::{Kernel, kernel};
+pub use scratch::Scratch;
+use wire_table::WireTable;
 
-/// A sum of randoms and input shares of a gadget. Bit k of `randoms` stands for random k, and bit
-/// `16 * input + index` of `shares` for that share of that input.
-#[derive(Clone, Copy)]
-pub struct LinearRow {
-    pub randoms: u128,
-    pub shares: u64,
-}
-
-/// The least set of input shares from which probes can be simulated, for the probes that the rows
-/// stand for. A share is in it exactly where it is left in some sum of rows in which all randoms
-/// cancel. Takes no memory.
-pub fn needed(rows: &[LinearRow]) -> u64
-    requires { length rows.now ≤ 64 }
-    ensures { (g : Circuit) (probes : List ℕ) (set : ℕ) →
-        StandFor g rows.now probes → IsSimulatable g probes set ↔ IsWithin result set }
+/// The least set of input shares from which the variables can be simulated. A share is in it exactly
+/// where a product with it is left in some sum of the variables in which all randoms cancel. Takes no
+/// memory.
+pub fn needed(table: &WireTable, scratch: &mut Scratch, vars: &[u16]) -> u64
+    requires scratch { scratch.old ≡ length table.now.products }
+    requires few { length vars.now ≤ 64 }
+    requires there { All (λ v. v < length table.now.random_rows) vars.now }
+    ensures scratch { scratch.new ≡ scratch.old }
+    ensures least { (g : Circuit) (set : ℕ) → StandsFor table.now g →
+        IsSimulatable g vars.now set ↔ IsWithin result set }
 {
+    // Its contract says what holds of each table.
+    let _vars = table.vars();
     let mut randoms = [0; 64];
-    copy_randoms(rows, &mut randoms);
+    copy_randoms(table, vars, &mut randoms);
     let mut cancelling = Kernel::new();
-    kernel(&randoms[..rows.len()], &mut cancelling);
-    union_of_shares(rows, cancelling.masks())
+    kernel(&randoms[..vars.len()], &mut cancelling);
+    union_of_sums(table, scratch, vars, cancelling.masks())
 }
 
-// Writes the randoms of each row to its place.
-fn copy_randoms(rows: &[LinearRow], out: &mut [u128; 64])
-    requires { length rows.now ≤ 64 }
-    ensures { take (length rows.now) out.new ≡ randoms_of rows.now }
+// Writes the randoms of each variable to its place.
+fn copy_randoms(table: &WireTable, vars: &[u16], out: &mut [u128; 64])
+    requires few { length vars.now ≤ 64 }
+    requires there { All (λ v. v < length table.now.random_rows) vars.now }
+    ensures { take (length vars.now) out.new ≡ random_rows_of table.now vars.now }
 {
-    for (i, row) in rows.iter().enumerate() {
-        out[i] = row.randoms;
+    for (i, &var) in vars.iter().enumerate() {
+        out[i] = table.random_row(var);
     }
 }
 
-// The shares that are left in some of the sums that the masks take.
-fn union_of_shares(rows: &[LinearRow], masks: &[u64]) -> u64
-    requires { length rows.now ≤ 64 }
-    ensures { result ≡ union_of_masks (shares_of rows.now) masks.now }
+// The shares of the products that are left in some of the sums that the masks take.
+fn union_of_sums(table: &WireTable, scratch: &mut Scratch, vars: &[u16], masks: &[u64]) -> u64
+    requires table { IsTable table.now }
+    requires scratch { scratch.old ≡ length table.now.products }
+    requires few { length vars.now ≤ 64 }
+    requires there { All (λ v. v < length table.now.random_rows) vars.now }
+    ensures scratch { scratch.new ≡ scratch.old }
+    ensures union { (set : ℕ) →
+        IsWithin result set ↔ All (λ mask. LeavesWithin table.now vars.now mask set) masks.now }
 {
-    masks
-        .iter()
-        .fold(0, |union, mask| union | sum_of_shares(rows, *mask))
-}
-
-// The shares that are left in the sum of the rows that a mask takes.
-fn sum_of_shares(rows: &[LinearRow], mask: u64) -> u64
-    requires { length rows.now ≤ 64 }
-    ensures { result ≡ masked_sum mask (shares_of rows.now) }
-{
-    let mut sum = 0;
-    for (i, row) in rows.iter().enumerate() {
-        if (mask >> i) & 1 == 1 {
-            sum ^= row.shares;
-        }
+    let mut union = 0;
+    for &mask in masks {
+        union |= scratch.shares_left(table, vars, mask);
     }
-    sum
+    union
 }
-
-#[cfg(test)]
-mod tests;
