@@ -1,14 +1,13 @@
 -- What a check knows of the probes that it is asked about.
 use Rattle.std.proofs.Common.{◌≡◌, ℕ, ◌<◌, ◌≤◌, Bool, true, false, not, List, length, get_or, ap, sym, ◌∙◌, arith, subst, ◌↔◌, inl, inr}
-use Rattle.std.specs.Prelude.{IsTrue, Contains, All}
+use Rattle.std.specs.Prelude.{IsTrue, All}
 use Rattle.std.proofs.lemmas.Bool.{not-true, not-false, false≢true}
 use Rattle.std.proofs.lemmas.List.Elements.{Contains-get_or}
 use Rattle.gadget_model.specs.Circuit.{Circuit}
 use Rattle.gadget_model.specs.Simulation.{IsSimulatable, IsWithin}
 use Rattle.tuple_model.specs.Tuples.{IsRising}
 use Rattle.tuple_model.proofs.Rising.{IsRising-member}
-use Rattle.needed.specs.declared.LinearRow.{LinearRow}
-use Rattle.needed.specs.GadgetRows.{AreRows}
+use Rattle.wire_table.specs.Tables.{Table, StandsFor}
 use Rattle.notions.specs.declared.ni.NiCheck.TheInside.{Inside}
 use Rattle.notions.specs.Inside.{query_of, IsPrepared}
 use Rattle.notions.specs.Ni.{Query, shares_of, IsGranted, Fails, Passes}
@@ -18,35 +17,32 @@ use Rattle.notions.proofs.Least.{Passes-least, Fails-least}
 abbrev pub IsGrantedTest : ℕ → ℕ → ℕ → Bool → Type 0
 IsGrantedTest inputs t set granted = IsTrue granted ↔ ((input : ℕ) → input < inputs → shares_of input set ≤ t)
 
--- the set is the least from which the variables can be simulated, whatever gadget the rows are those of
-abbrev pub IsLeastFor : List LinearRow → List ℕ → ℕ → Type 0
-IsLeastFor rows vars least = (g : Circuit) (set : ℕ) → AreRows g rows → IsSimulatable g vars set ↔ IsWithin least set
+-- the set is the least from which the variables can be simulated, whatever gadget the table stands for
+abbrev pub IsLeastFor : Table → List ℕ → ℕ → Type 0
+IsLeastFor table vars least = (g : Circuit) (set : ℕ) → StandsFor table g → IsSimulatable g vars set ↔ IsWithin least set
 
 module _ (q : Query) (i : Inside) (seen : query_of i ≡ q) (ready : IsPrepared i) (vars : List ℕ) (rises : IsRising 0 (length q.gadget.variables) vars) where
-  pub vars_in_rows : (rows : List LinearRow) → rows ≡ i.rows.items → All (λ v. v < length rows) vars
-  vars_in_rows rows e k d l =
+  pub vars_in_table : All (λ v. v < length i.table.now.random_rows) vars
+  vars_in_table k d l =
       let a = (IsRising-member 0 (length q.gadget.variables) vars (get_or vars k d) rises (Contains-get_or vars k d l)).1 in
       let m = ap (λ (c : Query). length c.gadget.variables) seen in
-      let n = ap (λ (z : List LinearRow). length z) e in
-      let every = ready.every in
+      let table = ready.table in
+      let every = table.every_random_row in
       omega arith
 
-  rows_of_gadget : (rows : List LinearRow) → rows ≡ i.rows.items → AreRows i.gadget.now rows
-  rows_of_gadget rows e = let P : List LinearRow → Type 0 = λ z. AreRows i.gadget.now z in subst P (sym e) ready.rows
-
-  pub Passes-granted : (granted : Bool) (rows : List LinearRow) (least : ℕ) → rows ≡ i.rows.items → IsLeastFor rows vars least → IsGrantedTest i.inputs i.t least granted →
+  pub Passes-granted : (granted : Bool) (inputs least : ℕ) → inputs ≡ length i.gadget.now.inputs → IsLeastFor i.table.now vars least → IsGrantedTest inputs i.t least granted →
       not granted ≡ false → Passes q.gadget q.t vars
-  Passes-granted granted rows least same is test refused =
+  Passes-granted granted inputs least n is test refused =
       let P : Query → Type 0 = λ c. Passes c.gadget c.t vars in
-      subst P seen (Passes-least i.gadget.now vars least i.t (λ set. is i.gadget.now set (rows_of_gadget rows same))
-      (λ input l. test.0 (not-false granted refused) input (let n = ready.inputs in omega arith)))
+      subst P seen (Passes-least i.gadget.now vars least i.t (λ set. is i.gadget.now set ready.table)
+      (λ input l. test.0 (not-false granted refused) input (omega arith)))
 
-  pub Fails-not_granted : (granted : Bool) (rows : List LinearRow) (least : ℕ) → rows ≡ i.rows.items → IsLeastFor rows vars least → IsGrantedTest i.inputs i.t least granted →
+  pub Fails-not_granted : (granted : Bool) (inputs least : ℕ) → inputs ≡ length i.gadget.now.inputs → IsLeastFor i.table.now vars least → IsGrantedTest inputs i.t least granted →
       length vars ≤ i.t → IsTrue (not granted) → Fails q.gadget q.t vars
-  Fails-not_granted granted rows least same is test few refused =
+  Fails-not_granted granted inputs least n is test few refused =
       let P : Query → Type 0 = λ c. Fails c.gadget c.t vars in
-      subst P seen (Fails-least i.gadget.now vars least i.t (λ set. is i.gadget.now set (rows_of_gadget rows same)) few
-      (λ all. false≢true (sym (not-true granted refused) ∙ test.1 (λ input l. all input (let n = ready.inputs in omega arith)))))
+      subst P seen (Fails-least i.gadget.now vars least i.t (λ set. is i.gadget.now set ready.table) few
+      (λ all. false≢true (sym (not-true granted refused) ∙ test.1 (λ input l. all input (omega arith)))))
 
 -- what passes doesn't fail
 pub not_Fails-from_Passes : (g : Circuit) (t : ℕ) (probes : List ℕ) → Passes g t probes → Fails g t probes → ⊥

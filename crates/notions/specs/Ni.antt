@@ -22,7 +22,8 @@ pub record Fails (g : Circuit) (t : ℕ) (probes : List ℕ) : Type 0 where
 abbrev pub Passes : Circuit → ℕ → List ℕ → Type 0
 Passes g t probes = (t < length probes) ⊎ ((set : ℕ) × IsGranted g t set × IsSimulatable g probes set)
 
--- a query: a gadget and an order
+-- A query: a gadget and an order, and how many monomials the gadget's table has, which tells what room an answer needs.
 pub record Query : Type 0 where
   pub gadget : Circuit
   pub t : ℕ
+  pub monomials : ℕ
