@@ -3,6 +3,8 @@ use Rattle.mask_bytes.specs.declared.error.ReadError.{ReadError}
 use Rattle.mask_bytes.specs.declared.error.ReadError.TheVariants as reads
 use Rattle.gadget_tree.specs.declared.file_error.FileError.{FileError}
 use Rattle.gadget_tree.specs.declared.file_error.FileError.TheVariants as files
+use Rattle.wire_table.specs.declared.wire_error.WireError.{WireError}
+use Rattle.wire_table.specs.declared.wire_error.WireError.TheVariants as wires
 use Rattle.mask_check.specs.declared.status.Status.{Status}
 use Rattle.mask_check.specs.declared.status.Status.TheVariants as statuses
 
@@ -12,5 +14,11 @@ status_of_read reads.TooLong = statuses.TooLong
 status_of_read reads.OutOfMemory = statuses.OutOfMemory
 
 abbrev pub status_of_file : FileError → Status
-status_of_file (files.NotYet line) = statuses.File (files.NotYet line)
+status_of_file (files.Syntax line) = statuses.File (files.Syntax line)
 status_of_file files.OutOfMemory = statuses.OutOfMemory
+
+abbrev pub status_of_wires : WireError → Status
+status_of_wires (wires.TooWide var line) = statuses.Wires (wires.TooWide var line)
+status_of_wires (wires.RandomProduct var line) = statuses.Wires (wires.RandomProduct var line)
+status_of_wires (wires.Degree var line) = statuses.Wires (wires.Degree var line)
+status_of_wires wires.OutOfMemory = statuses.OutOfMemory

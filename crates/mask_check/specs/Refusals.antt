@@ -5,7 +5,7 @@ use Rattle.mask_bytes.specs.Flow.{IsLonger, LosesCount, LosesAtMost}
 use Rattle.mask_check.specs.declared.status.Status.{Status}
 use Rattle.mask_check.specs.declared.status.Status.TheVariants as statuses
 use Rattle.mask_check.specs.Words.{words_ask}
-use Rattle.mask_check.specs.Check.{BreaksOff, RefusesFile}
+use Rattle.mask_check.specs.Check.{BreaksOff, RefusesFile, RefusesGadget}
 
 -- the words ask for some check
 abbrev pub IsAsked : List (List ℕ) → Type 0
@@ -28,6 +28,7 @@ Refuses words run statuses.Yes = ⊥
 Refuses words run statuses.No = ⊥
 Refuses words run (statuses.Usage kind) = (words_ask words ≡ Err kind) × (run.source_after ≡ run.source) × (run.sink_after ≡ run.sink)
 Refuses words run (statuses.File error) = IsAsked words × (run.sink_after ≡ run.sink) × RefusesFile (run.left run.source) (run.left run.source_after) error
+Refuses words run (statuses.Wires error) = IsAsked words × (run.sink_after ≡ run.sink) × RefusesGadget (run.left run.source) (run.left run.source_after) error
 Refuses words run statuses.TooLong = IsAsked words × (run.sink_after ≡ run.sink) × IsLonger (run.left run.source) 1048576 × LosesCount (run.left run.source) (run.left run.source_after) 1048577
 Refuses words run statuses.ReadFault = IsAsked words × (run.sink_after ≡ run.sink) × Rose (run.read_faults run.source) (run.read_faults run.source_after)
     × LosesAtMost (run.left run.source) (run.left run.source_after) 1048576

@@ -2,10 +2,12 @@
 use Rattle.std.specs.Prelude.{ℕ, List, [], ◌++◌, codes, decimal}
 use Rattle.gadget_tree.specs.declared.file_error.FileError.{FileError}
 use Rattle.gadget_tree.specs.declared.file_error.FileError.TheVariants as file_error
+use Rattle.wire_table.specs.declared.wire_error.WireError.{WireError}
+use Rattle.wire_table.specs.declared.wire_error.WireError.TheVariants as wire_error
 use Rattle.mask_check.specs.declared.status.UsageKind.{UsageKind}
 use Rattle.mask_check.specs.declared.status.UsageKind.TheVariants.{Words, Task, Argument}
 use Rattle.mask_check.specs.declared.status.Status.{Status}
-use Rattle.mask_check.specs.declared.status.Status.TheVariants.{Yes, No, Usage, File, TooLong, ReadFault, WriteFault, OutOfMemory}
+use Rattle.mask_check.specs.declared.status.Status.TheVariants.{Yes, No, Usage, File, Wires, TooLong, ReadFault, WriteFault, OutOfMemory}
 
 -- what is wrong with the command line
 abbrev pub usage_text : UsageKind → List ℕ
@@ -19,8 +21,15 @@ out_of_memory_text = codes "mask: out of memory"
 
 -- why the file is refused, with the number of the line
 abbrev pub file_text : FileError → List ℕ
-file_text (file_error.NotYet line) = codes "mask: line " ++ decimal line ++ codes ": not built yet"
+file_text (file_error.Syntax line) = codes "mask: line " ++ decimal line ++ codes ": syntax"
 file_text file_error.OutOfMemory = out_of_memory_text
+
+-- why the gadget is refused, with the number of the line of its first variable outside the class
+abbrev pub wires_text : WireError → List ℕ
+wires_text (wire_error.TooWide var line) = codes "mask: line " ++ decimal line ++ codes ": too many monomials"
+wires_text (wire_error.RandomProduct var line) = codes "mask: line " ++ decimal line ++ codes ": random in a product"
+wires_text (wire_error.Degree var line) = codes "mask: line " ++ decimal line ++ codes ": degree above 2"
+wires_text wire_error.OutOfMemory = out_of_memory_text
 
 -- The text of a status says why there is no report, and is empty where there is one. It has no line feed.
 abbrev pub text_of : Status → List ℕ
@@ -28,6 +37,7 @@ text_of Yes = []
 text_of No = []
 text_of (Usage kind) = usage_text kind
 text_of (File error) = file_text error
+text_of (Wires error) = wires_text error
 text_of TooLong = codes "mask: file too long"
 text_of ReadFault = codes "mask: read failed"
 text_of WriteFault = codes "mask: write failed"
@@ -35,15 +45,23 @@ text_of OutOfMemory = out_of_memory_text
 
 -- A file that is refused gives 3; where memory ran out while it was read, the exit status is 8, as elsewhere.
 abbrev pub file_exit : FileError → ℕ
-file_exit (file_error.NotYet line) = 3
+file_exit (file_error.Syntax line) = 3
 file_exit file_error.OutOfMemory = 8
 
--- The exit status: 0 for the verdict yes, 1 for no, 2 for the command line, 3 for the file, 6 for a read, 7 for a write, 8 for memory.
+-- A gadget that is refused gives 3, as a file.
+abbrev pub wires_exit : WireError → ℕ
+wires_exit (wire_error.TooWide var line) = 3
+wires_exit (wire_error.RandomProduct var line) = 3
+wires_exit (wire_error.Degree var line) = 3
+wires_exit wire_error.OutOfMemory = 8
+
+-- The exit status: 0 for the verdict yes, 1 for no, 2 for the command line, 3 for the file and its gadget, 6 for a read, 7 for a write, 8 for memory.
 abbrev pub exit_of : Status → ℕ
 exit_of Yes = 0
 exit_of No = 1
 exit_of (Usage kind) = 2
 exit_of (File error) = file_exit error
+exit_of (Wires error) = wires_exit error
 exit_of TooLong = 3
 exit_of ReadFault = 6
 exit_of WriteFault = 7

@@ -1,14 +1,15 @@
 //! How a check ends, and what the program's caller sees of it.
 
-ghost use Rattle.std.specs.Prelude.{◌≡◌, ◌++◌, codes, decimal};
+ghost use Rattle.std.specs.Prelude.{◌≡◌, ◌≤◌, ◌++◌, codes, decimal, length};
 ghost use Rattle.mask_check.specs.Texts.{text_of, exit_of};
-ghost use Rattle.mask_check.specs.Causes.{status_of_read, status_of_file};
+ghost use Rattle.mask_check.specs.Causes.{status_of_read, status_of_file, status_of_wires};
 ghost use Rattle.mask_check.specs.declared.status.Status.TheVariants.{Usage, WriteFault, OutOfMemory};
 
 use crate::line::Line;
 use gadget_tree::FileError;
 use itoa::Buffer;
 use mask_bytes::{Failed, OutOfMemory, ReadError};
+use wire_table::WireError;
 
 /// What is wrong with the words of the command line.
 #[derive(Clone, Copy, Debug, PartialEq, Eq, Drop)]
@@ -31,6 +32,8 @@ pub enum Status {
     Usage(UsageKind),
     /// The file is refused.
     File(FileError),
+    /// The gadget is outside the class that the verifier decides.
+    Wires(WireError),
     /// The file has more than 1,048,576 bytes.
     TooLong,
     ReadFault,
@@ -69,6 +72,17 @@ impl From<FileError> for Status {
     }
 }
 
+impl From<WireError> for Status {
+    ghost from_gives = { λ error status. status ≡ status_of_wires error };
+
+    fn from(error: WireError) -> Status {
+        match error {
+            WireError::OutOfMemory => Status::OutOfMemory,
+            error => Status::Wires(error),
+        }
+    }
+}
+
 impl From<OutOfMemory> for Status {
     ghost from_gives = { λ _ status. status ≡ OutOfMemory };
 
@@ -94,23 +108,34 @@ pub fn status_text(status: &Status, out: &mut Line)
         Status::Usage(UsageKind::Words) => out.set(b"mask: usage: mask TASK ARG [options]"),
         Status::Usage(UsageKind::Task) => out.set(b"mask: unknown task"),
         Status::Usage(UsageKind::Argument) => out.set(b"mask: bad argument"),
-        Status::File(FileError::NotYet(line)) => set_not_yet(*line, out),
+        Status::File(FileError::Syntax(line)) => set_line(*line, b": syntax", out),
+        Status::Wires(WireError::TooWide { line, .. }) => {
+            set_line(*line, b": too many monomials", out)
+        }
+        Status::Wires(WireError::RandomProduct { line, .. }) => {
+            set_line(*line, b": random in a product", out)
+        }
+        Status::Wires(WireError::Degree { line, .. }) => {
+            set_line(*line, b": degree above 2", out)
+        }
         Status::TooLong => out.set(b"mask: file too long"),
         Status::ReadFault => out.set(b"mask: read failed"),
         Status::WriteFault => out.set(b"mask: write failed"),
-        Status::OutOfMemory | Status::File(FileError::OutOfMemory) => {
-            out.set(b"mask: out of memory")
-        }
+        Status::OutOfMemory
+        | Status::File(FileError::OutOfMemory)
+        | Status::Wires(WireError::OutOfMemory) => out.set(b"mask: out of memory"),
     }
 }
 
-fn set_not_yet(line: u32, out: &mut Line)
-    ensures { out.new ≡ codes "mask: line " ++ decimal line ++ codes ": not built yet" }
+// The line of the file that offends, and what is amiss with it.
+fn set_line(line: u32, offence: &[u8], out: &mut Line)
+    requires { length offence.now ≤ 21 }
+    ensures { out.new ≡ codes "mask: line " ++ decimal line ++ offence.now }
 {
     let mut digits = Buffer::new();
     out.set(b"mask: line ");
     out.push(digits.format(line).as_bytes());
-    out.push(b": not built yet");
+    out.push(offence);
 }
 
 /// The exit status of the program.
@@ -121,10 +146,16 @@ pub fn exit_status(status: &Status) -> u8
         Status::Yes => 0,
         Status::No => 1,
         Status::Usage(_) => 2,
-        Status::File(FileError::NotYet(_)) | Status::TooLong => 3,
+        Status::File(FileError::Syntax(_))
+        | Status::Wires(
+            WireError::TooWide { .. } | WireError::RandomProduct { .. } | WireError::Degree { .. },
+        )
+        | Status::TooLong => 3,
         Status::ReadFault => 6,
         Status::WriteFault => 7,
-        Status::OutOfMemory | Status::File(FileError::OutOfMemory) => 8,
+        Status::OutOfMemory
+        | Status::File(FileError::OutOfMemory)
+        | Status::Wires(WireError::OutOfMemory) => 8,
     }
 }
 
@@ -134,7 +165,8 @@ mod tests {
 
     #[test]
     fn each_status_has_its_text_and_exit_status(rt: HostRuntime) {
-        let table: [(Status, &[u8], u8); 11] = [
+        let (var, line) = (6, 4294967295);
+        let table: [(Status, &[u8], u8); 15] = [
             (Status::Yes, b"", 0),
             (
                 Status::Usage(UsageKind::Words),
@@ -145,12 +177,32 @@ mod tests {
             (Status::Usage(UsageKind::Task), b"mask: unknown task", 2),
             (Status::Usage(UsageKind::Argument), b"mask: bad argument", 2),
             (
-                Status::File(FileError::NotYet(4294967295)),
-                b"mask: line 4294967295: not built yet",
+                Status::File(FileError::Syntax(4294967295)),
+                b"mask: line 4294967295: syntax",
                 3,
             ),
             (
                 Status::File(FileError::OutOfMemory),
+                b"mask: out of memory",
+                8,
+            ),
+            (
+                Status::Wires(WireError::TooWide { var, line }),
+                b"mask: line 4294967295: too many monomials",
+                3,
+            ),
+            (
+                Status::Wires(WireError::RandomProduct { var, line }),
+                b"mask: line 4294967295: random in a product",
+                3,
+            ),
+            (
+                Status::Wires(WireError::Degree { var, line }),
+                b"mask: line 4294967295: degree above 2",
+                3,
+            ),
+            (
+                Status::Wires(WireError::OutOfMemory),
                 b"mask: out of memory",
                 8,
             ),

@@ -1,6 +1,6 @@
 //! The words of the command line.
 
-ghost use Rattle.std.specs.Prelude.{◌≡◌, map, string_bytes};
+ghost use Rattle.std.specs.Prelude.{◌≡◌, ◌≤◌, IfOk, map, string_bytes};
 ghost use Rattle.mask_check.specs.Words.{words_ask, order_of};
 
 use crate::status::UsageKind;
@@ -8,7 +8,8 @@ use crate::status::UsageKind;
 /// The order that the command line asks for. Its words are the program's name, the task `ni` and an order, which is `0`, `1`
 /// or `2`; otherwise the answer is the first of these three that is amiss.
 pub fn settings(words: &[String]) -> Result<u8, UsageKind>
-    ensures { result ≡ words_ask (map string_bytes words.now) }
+    ensures asked { result ≡ words_ask (map string_bytes words.now) }
+    ensures few { IfOk result (λ t. t ≤ 2) }
 {
     let [_, task, argument] = words else {
         return Err(UsageKind::Words);
@@ -20,7 +21,8 @@ pub fn settings(words: &[String]) -> Result<u8, UsageKind>
 }
 
 fn order(argument: &str) -> Result<u8, UsageKind>
-    ensures { result ≡ order_of argument.now }
+    ensures order { result ≡ order_of argument.now }
+    ensures few { IfOk result (λ t. t ≤ 2) }
 {
     match argument {
         "0" => Ok(0),

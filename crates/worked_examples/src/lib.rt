@@ -4,7 +4,11 @@
 #[cfg(test)]
 mod fixture;
 #[cfg(test)]
+mod least_sets;
+#[cfg(test)]
 mod limit;
+#[cfg(test)]
+mod products;
 #[cfg(test)]
 mod randoms;
 #[cfg(test)]
@@ -15,5 +19,7 @@ mod refusals;
 mod standard;
 #[cfg(test)]
 mod verdicts;
+#[cfg(test)]
+mod widths;
 #[cfg(test)]
 mod write_faults;

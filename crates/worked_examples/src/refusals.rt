@@ -11,7 +11,7 @@ const REFUSED_FILES: [(&str, u32); 4] = [
     ("#SHARES 2\n#IN a\n#RANDOMS r0\n#OUT d\nd0 = a0 + r0\n", 6),
     ("", 1),
     ("#SHARES 2\n#IN a\n#OUT d\n", 4),
-    ("#SHARES 2\n#IN a\n#OUT d\nd0 = a0 * a1\nd1 = a1\n", 4),
+    ("#SHARES 2\n#IN a\n#OUT d\nd0 = a0 & a1\nd1 = a1\n", 4),
 ];
 
 // Words, and what is amiss with them.
@@ -27,7 +27,7 @@ fn refused_files_write_nothing(rt: HostRuntime) -> Result<(), Fail> {
     for (file, line) in REFUSED_FILES {
         let mut source = SureSource::make(file.as_bytes().to_vec(alloc)?);
         let outcome = check_source(alloc, "1", &mut source)?;
-        let refused = Status::File(FileError::NotYet(line));
+        let refused = Status::File(FileError::Syntax(line));
         assert_eq!(rt; outcome.status, refused, "{file}");
         assert_eq!(rt; outcome.text.as_str(), "");
     }

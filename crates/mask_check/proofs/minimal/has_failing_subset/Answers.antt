@@ -3,7 +3,7 @@ use Rattle.tuple_model.specs.Tuples.{IsRising}
 use Rattle.tuple_model.proofs.Subsets.{IsRising-subset}
 use Rattle.mask_check.proofs.minimal.has_failing_subset.Goals as goal
 
-pub bad-requires : goal.bad-requires
-bad-requires c =
+pub bad-requires-clause-rising : goal.bad-requires-clause-rising
+bad-requires-clause-rising c =
     let n = length c.args.check.now.gadget.variables in
-    subst (IsRising 0 n) (sym (c.items-in-loop-k.ensures.items ∙ c.subset.ensures)) (IsRising-subset c.loop-k.k 0 n c.args.set.now c.requires.rising)
+    subst (IsRising 0 n) (sym (c.items-in-loop-k.ensures.items ∙ c.subset.ensures)) (IsRising-subset c.loop-k.k 0 n c.args.set.now c.requires.tuple.rising)

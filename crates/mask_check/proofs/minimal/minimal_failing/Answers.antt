@@ -16,7 +16,10 @@ loop-rank-init c =
     let Failing = failing c.args.check.now in
     let P : List ℕ → Type 0 = λ set. IsAt Failing c.args.items c.args.size 0 set c.new-minimal.result.items in
     let Q : List (List ℕ) → Type 0 = λ found. IsAt Failing c.args.items c.args.size 0 [] found in
-    subst P (sym c.empty-set.ensures) (subst Q (sym c.new-minimal.ensures.items) (IsAt-start Failing c.args.items c.args.size))
+    record {
+      at = subst P (sym c.empty-set.ensures) (subst Q (sym c.new-minimal.ensures.items) (IsAt-start Failing c.args.items c.args.size));
+      scratch = c.requires.scratch;
+    }
 
 pub loop-rank-preserved : goal.loop-rank-preserved
 loop-rank-preserved c =
@@ -29,24 +32,27 @@ loop-rank-preserved c =
     let more : rank < length (tuples items size) = let e = c.count-rank-end.ensures in let l = c.loop-rank-test.true in omega arith in
     let goes = goes-from_step items size set after c.next-more.result c.next-more.ensures.next c.next-more.ensures.last in
     let P : List (List ℕ) → Type 0 = λ found. IsAt Failing items size (rank + 1) after found in
-    let at = c.loop-rank.invariant in
+    let at = c.loop-rank.invariant.at in
     let known = c.is_minimal.ensures.settled in
     let fits = c.next-more.ensures.tuple in
-    elim c.if-is_minimal.branch [
-      | then-is_minimal+in_ok-push w ↦
-          subst P (sym (ap (λ (v : Found). v.items) w.minimal-is ∙ w.in_ok-push.ensures.items))
-          (IsAt-kept Failing items size rank set c.loop-rank.minimal.items at more after goes fits known (c.is_minimal.ensures.minimal w.if-is_minimal.true))
-      | else-is_minimal w ↦
-          subst P (sym (ap (λ (v : Found). v.items) w.minimal-is))
-          (IsAt-skipped Failing items size rank set c.loop-rank.minimal.items at more after goes fits known (c.is_minimal.ensures.not_minimal w.if-is_minimal.false))
-    ]
+    record {
+      at = elim c.if-is_minimal.branch [
+        | then-is_minimal+in_ok-push w ↦
+            subst P (sym (ap (λ (v : Found). v.items) w.minimal-is ∙ w.in_ok-push.ensures.items))
+            (IsAt-kept Failing items size rank set c.loop-rank.minimal.items at more after goes fits known (c.is_minimal.ensures.minimal w.if-is_minimal.true))
+        | else-is_minimal w ↦
+            subst P (sym (ap (λ (v : Found). v.items) w.minimal-is))
+            (IsAt-skipped Failing items size rank set c.loop-rank.minimal.items at more after goes fits known (c.is_minimal.ensures.not_minimal w.if-is_minimal.false))
+      ];
+      scratch = c.is_minimal.ensures.scratch ∙ c.loop-rank.invariant.scratch;
+    }
 
 pub returns-clause-answer : goal.returns-clause-answer
 returns-clause-answer c =
-    answer-from_end (failing c.args.check.now) c.args.items c.args.size c.loop-rank._rank c.loop-rank.set c.loop-rank.minimal.items c.loop-rank.invariant
+    answer-from_end (failing c.args.check.now) c.args.items c.args.size c.loop-rank._rank c.loop-rank.set c.loop-rank.minimal.items c.loop-rank.invariant.at
     (let e = c.count-rank-end.ensures in let l = c.loop-rank-test.false in omega arith)
 
 pub returns-clause-settled : goal.returns-clause-settled
 returns-clause-settled c =
-    settled-from_end (failing c.args.check.now) c.args.items c.args.size c.loop-rank._rank c.loop-rank.set c.loop-rank.minimal.items c.loop-rank.invariant
+    settled-from_end (failing c.args.check.now) c.args.items c.args.size c.loop-rank._rank c.loop-rank.set c.loop-rank.minimal.items c.loop-rank.invariant.at
     (let e = c.count-rank-end.ensures in let l = c.loop-rank-test.false in omega arith)

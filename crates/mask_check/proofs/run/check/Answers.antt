@@ -3,7 +3,7 @@ use Rattle.mask_check.proofs.Completions.{IsVerdictIfMemoryLasts-from_refusal}
 use Rattle.mask_check.proofs.run.check.Goals as goal
 
 pub returns-in-Err-clause-complete : goal.returns-in-Err-clause-complete
-returns-in-Err-clause-complete g c = λ t bytes gadget asked told few valid reads writes.
+returns-in-Err-clause-complete g c = λ t bytes gadget asked told few valid fit reads writes.
     IsVerdictIfMemoryLasts-from_refusal (map string_bytes c.args.words.now)
     (record {
       left = g.S.Source.left;
@@ -14,4 +14,4 @@ returns-in-Err-clause-complete g c = λ t bytes gadget asked told few valid read
       source_after = c.verdict.new.source;
       sink = c.args.sink.now;
       sink_after = c.verdict.new.sink;
-    }) t bytes gadget asked told few valid reads writes c.in-Err.refusal c.in-Err.ensures.err
+    }) t bytes gadget asked told few valid fit reads writes c.in-Err.refusal c.in-Err.ensures.err

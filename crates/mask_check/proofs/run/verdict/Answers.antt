@@ -1,5 +1,6 @@
-use Rattle.std.proofs.Common.{rules}
+use Rattle.std.proofs.Common.{rules, refl, map, string_bytes}
 use Rattle.std.proofs.lemmas.Result.{err_from_is_err_and}
+use Rattle.mask_check.proofs.TableRefusals.{Refuses-from_table}
 use Rattle.mask_check.proofs.run.verdict.Goals as goal
 
 pub returns-in_err-write_whole-clause-err : goal.returns-in_err-write_whole-clause-err
@@ -10,7 +11,23 @@ returns-in_err-write_whole-clause-err g c =
       (
         c.in_ok-answer.answer.secure,
         c.deref-2.result.now,
-        record { t = c.in_ok-t.t; asked = search rules; end = c.in_ok-bytes.ensures.end; short = search rules; gadget = c.in_ok-gadget.gadget; file = search rules; answers = search rules },
+        record { t = c.in_ok-t.t; asked = search rules; end = c.in_ok-bytes.ensures.end; short = search rules; gadget = c.in_ok-gadget.gadget; file = search rules; in_class = search rules; answers = search rules },
         c.in_err-write_whole.ensures.prefix,
       ),
     )
+
+pub returns-in_err-table-clause-err : goal.returns-in_err-table-clause-err
+returns-in_err-table-clause-err g c =
+    let p = err_from_is_err_and c.from_residual-in_err-table.result c.from_residual-in_err-table.ensures.1 in
+    rw (p.1) (Refuses-from_table (map string_bytes c.args.words.now)
+    (record {
+      left = g.S.Source.left;
+      read_faults = g.S.Source.faults;
+      written = g.K.Sink.written;
+      write_faults = g.K.Sink.faults;
+      source = c.args.source.now;
+      source_after = c.read_whole.new.source;
+      sink = c.args.sink.now;
+      sink_after = c.args.sink.now;
+    })
+    c.in_ok-gadget.gadget (c.in_ok-t.t, search rules) refl c.in_ok-bytes.ensures.end (search rules) c.in_err-table.field-0.0 p.0 p.2 (search rules))

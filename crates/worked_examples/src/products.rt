@@ -1,0 +1,72 @@
+//! Multiplications, and gadgets outside the verifier's class.
+
+use crate::fixture::check_source;
+use mask_bytes::SureSource;
+use mask_check::Status;
+use std::test::Fail;
+use wire_table::WireError;
+
+// Gadgets with products, and the report of each at order one.
+const MULTIPLICATIONS: [(&str, &str); 4] = [
+    // The multiplication of Ishai, Sahai and Wagner.
+    (
+        "#SHARES 2\n#IN a b\n#RANDOMS r01\n#OUT c\np00 = a0 * b0\np01 = a0 * b1\np10 = a1 * b0\np11 = a1 * b1\nu01 = r01 + p01\nr10 = u01 + p10\nc0 = p00 + r01\nc1 = p11 + r10\n",
+        "check ni 1\ngadget shares 2 inputs 2 outputs 1 randoms 1 variables 13\nspace items 13 size 1 tuples 14\nverdict yes\n",
+    ),
+    // The square of a bit is the bit: the random is only added.
+    (
+        "#SHARES 2\n#IN a b\n#RANDOMS r0\n#OUT d\nx = a0 + r0\nt = x * x\nd0 = t + b0\nd1 = a1 + r0\n",
+        "check ni 1\ngadget shares 2 inputs 2 outputs 1 randoms 1 variables 9\nspace items 9 size 1 tuples 10\nverdict yes\n",
+    ),
+    // The same of two wires that have one value.
+    (
+        "#SHARES 2\n#IN a b\n#RANDOMS r0\n#OUT d\nx = a0 + r0\ny = a0 + r0\nt = x * y\nd0 = t + b0\nd1 = a1 + r0\n",
+        "check ni 1\ngadget shares 2 inputs 2 outputs 1 randoms 1 variables 10\nspace items 10 size 1 tuples 11\nverdict yes\n",
+    ),
+    // A share that stands in a product twice counts once for the degree.
+    (
+        "#SHARES 2\n#IN a b\n#RANDOMS r0\n#OUT d\nx = a0 * b0\nt = x * a0\nd0 = t + b0\nd1 = a1 + r0\n",
+        "check ni 1\ngadget shares 2 inputs 2 outputs 1 randoms 1 variables 9\nspace items 9 size 1 tuples 10\nverdict yes\n",
+    ),
+];
+
+// Gadgets outside the class, and the first variable that is.
+const REFUSED: [(&str, WireError); 3] = [
+    (
+        "#SHARES 2\n#IN a b\n#RANDOMS r0\n#OUT d\nx = a0 + r0\nt = x * b0\nd0 = t + b0\nd1 = a1 + r0\n",
+        WireError::RandomProduct { var: 6, line: 6 },
+    ),
+    (
+        "#SHARES 2\n#IN a b\n#RANDOMS r0\n#OUT d\nx = a0 * b0\nt = x * a1\nd0 = t + b0\nd1 = a1 + r0\n",
+        WireError::Degree { var: 6, line: 6 },
+    ),
+    // A random in a product of three variables is a random in a product.
+    (
+        "#SHARES 2\n#IN a b\n#RANDOMS r0\n#OUT d\ny = a0 * b0\nx = y + r0\nt = x * a1\nd0 = t + b0\nd1 = a1 + r0\n",
+        WireError::RandomProduct { var: 7, line: 7 },
+    ),
+];
+
+#[test]
+fn multiplications_are_checked(rt: HostRuntime) -> Result<(), Fail> {
+    let alloc = rt.alloc();
+    for (file, report) in MULTIPLICATIONS {
+        let mut source = SureSource::make(file.as_bytes().to_vec(alloc)?);
+        let outcome = check_source(alloc, "1", &mut source)?;
+        assert_eq!(rt; outcome.status, Status::Yes, "{file}");
+        assert_eq!(rt; outcome.text.as_str(), report);
+    }
+    Ok(())
+}
+
+#[test]
+fn gadgets_outside_the_class_are_refused(rt: HostRuntime) -> Result<(), Fail> {
+    let alloc = rt.alloc();
+    for (file, error) in REFUSED {
+        let mut source = SureSource::make(file.as_bytes().to_vec(alloc)?);
+        let outcome = check_source(alloc, "1", &mut source)?;
+        assert_eq!(rt; outcome.status, Status::Wires(error), "{file}");
+        assert_eq!(rt; outcome.text.as_str(), "");
+    }
+    Ok(())
+}

@@ -1,0 +1,62 @@
+//! The widest polynomials that a variable may have.
+
+use crate::fixture::check_source;
+use mask_bytes::SureSource;
+use mask_check::Status;
+use std::alloc::{AllocError, Global};
+use std::test::Fail;
+use wire_table::WireError;
+
+// Lines that sum all 16 shares of an input, the last of them in a variable `LETTERs15`.
+fn push_sum(alloc: Global, file: &mut String, input: &str) -> Result<(), AllocError> {
+    file.push_str(&format!(in alloc; "{input}s1 = {input}0 + {input}1\n")?)?;
+    for k in 2u8..16 {
+        let before = k - 1;
+        file.push_str(&format!(in alloc; "{input}s{k} = {input}s{before} + {input}{k}\n")?)?;
+    }
+    Ok(())
+}
+
+// Lines that copy all shares of the input c to the output.
+fn push_copies(alloc: Global, file: &mut String) -> Result<(), AllocError> {
+    for k in 0u8..16 {
+        file.push_str(&format!(in alloc; "d{k} = c{k}\n")?)?;
+    }
+    Ok(())
+}
+
+// A file in which `t`, on line 34, is the product of the sums of all shares of two inputs, and then a line `behind`.
+fn file(alloc: Global, behind: &str) -> Result<String, AllocError> {
+    let mut file = String::from_str(alloc, "#SHARES 16\n#IN a b c\n#OUT d\n")?;
+    push_sum(alloc, &mut file, "a")?;
+    push_sum(alloc, &mut file, "b")?;
+    file.push_str("t = as15 * bs15\n")?;
+    file.push_str(behind)?;
+    push_copies(alloc, &mut file)?;
+    Ok(file)
+}
+
+#[test]
+fn two_hundred_and_fifty_six_monomials_are_no_offence(rt: HostRuntime) -> Result<(), Fail> {
+    let alloc = rt.alloc();
+    let file = file(alloc, "")?;
+    let mut source = SureSource::make(file.as_bytes().to_vec(alloc)?);
+    let outcome = check_source(alloc, "0", &mut source)?;
+    assert_eq!(rt; outcome.status, Status::Yes);
+    let report =
+        "check ni 0\ngadget shares 16 inputs 3 outputs 1 randoms 0 variables 95\nspace items 95 size 0 tuples 1\nverdict yes\n";
+    assert_eq!(rt; outcome.text.as_str(), report);
+    Ok(())
+}
+
+#[test]
+fn one_monomial_more_is_refused(rt: HostRuntime) -> Result<(), Fail> {
+    let alloc = rt.alloc();
+    let file = file(alloc, "u = t + c0\n")?;
+    let mut source = SureSource::make(file.as_bytes().to_vec(alloc)?);
+    let outcome = check_source(alloc, "0", &mut source)?;
+    let refused = WireError::TooWide { var: 79, line: 35 };
+    assert_eq!(rt; outcome.status, Status::Wires(refused));
+    assert_eq!(rt; outcome.text.as_str(), "");
+    Ok(())
+}
