@@ -1,0 +1,10 @@
+pub mod Returns
+pub mod Runs
+pub mod Blanks
+pub mod Kept
+pub mod Headers
+pub mod Files
+pub mod Sides
+pub mod Slices
+pub mod Spans
+pub mod LineRuns

@@ -1,0 +1,19 @@
+//! The tokens of a gadget file: its lines, which of them are headers, comments or assignments, and
+//! the words and signs that each has, with their places.
+#![tactic(auto)]
+
+mod byte;
+mod file;
+mod header;
+mod laws;
+mod line;
+mod line_kind;
+mod token;
+mod words;
+
+pub use file::tokens;
+pub use laws::{lines_law, segments_law, slices_law, words_law};
+pub use token::{Header, TextError, Token, TokenKind};
+
+#[cfg(test)]
+mod tests;
