@@ -1,5 +1,5 @@
 -- What a check knows of the probes that it is asked about.
-use Rattle.std.proofs.Common.{◌≡◌, ℕ, ◌<◌, ◌≤◌, Bool, true, false, not, List, length, get_or, ap, sym, ◌∙◌, arith, subst, ◌↔◌, inl, inr}
+use Rattle.std.proofs.Common.{◌≡◌, ℕ, ◌<◌, ◌≤◌, Bool, false, not, List, length, get_or, ap, sym, ◌∙◌, arith, subst, ◌↔◌, inl, inr}
 use Rattle.std.specs.Prelude.{IsTrue, All}
 use Rattle.std.proofs.lemmas.Bool.{not-true, not-false, false≢true}
 use Rattle.std.proofs.lemmas.List.Elements.{Contains-get_or}
@@ -10,7 +10,7 @@ use Rattle.tuple_model.proofs.Rising.{IsRising-member}
 use Rattle.wire_table.specs.Tables.{Table, StandsFor}
 use Rattle.notions.specs.declared.ni.NiCheck.TheInside.{Inside}
 use Rattle.notions.specs.Inside.{query_of, IsPrepared}
-use Rattle.notions.specs.Ni.{Query, shares_of, IsGranted, Fails, Passes}
+use Rattle.notions.specs.Ni.{Query, shares_of, Fails, Passes}
 use Rattle.notions.proofs.Least.{Passes-least, Fails-least}
 
 -- the answer of the test on the number of shares
