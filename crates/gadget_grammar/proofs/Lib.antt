@@ -1,0 +1,12 @@
+pub mod Dots
+pub mod Advances
+pub mod TreeReader
+pub mod Complete
+pub mod Sound
+pub mod Posted
+pub mod Readings
+pub mod Values
+pub mod Depth
+pub mod Lines
+pub mod NameParts
+pub mod Spans

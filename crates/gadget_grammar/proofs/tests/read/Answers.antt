@@ -1,0 +1,6 @@
+use Rattle.std.proofs.Common.{◌∙◌}
+use Rattle.gadget_grammar.proofs.Spans.{tokens_within}
+use Rattle.gadget_grammar.proofs.tests.read.Goals as goal
+
+pub assignment-requires : goal.assignment-requires
+assignment-requires c = tokens_within c.args.line.now c.deref.result.now (c.deref.ensures.value ∙ c.in-Ok.ensures.tokens)

@@ -1,0 +1,7 @@
+pub mod Names
+pub mod Symbols
+pub mod Grammar
+pub mod Steps
+pub mod Nesting
+pub mod Machine
+pub mod Seen

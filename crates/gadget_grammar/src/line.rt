@@ -1,0 +1,63 @@
+//! An assignment line.
+
+ghost use Rattle.std.specs.Prelude.{◌≡◌, ◌≤◌, All, IfOk, IfSome, length, drop, option_map};
+ghost use Rattle.gadget_grammar.specs.Machine.{left_name, steps_from, start};
+ghost use Rattle.gadget_grammar.specs.Seen.{IsWithin, IsStepWithin, text_in, lexemes_in, symbols_in, Gives, LineSays};
+
+use crate::grammar_error::GrammarError;
+use crate::name::is_name;
+use crate::nesting::is_too_deep;
+use crate::reader::expression;
+use crate::step::{Assignment, Step};
+use gadget_text::{Token, TokenKind};
+use std::alloc::Global;
+
+// The name on the left side, where a line begins with a name and `=`.
+fn left_side(bytes: &[u8], tokens: &[Token]) -> Option<Token>
+    requires { All (IsWithin (length bytes.now)) tokens.now }
+    ensures name { option_map (text_in bytes.now) result ≡ left_name (symbols_in bytes.now tokens.now) }
+    ensures within { IfSome result (IsWithin (length bytes.now)) }
+    ensures two { IfSome result (λ _. 2 ≤ length tokens.now) }
+{
+    if tokens.len() < 2 {
+        return None;
+    }
+    let left = tokens[0];
+    if left.kind != TokenKind::Word || tokens[1].kind != TokenKind::Equals {
+        return None;
+    }
+    if !is_name(&bytes[left.from as usize..left.to as usize]) {
+        return None;
+    }
+    Some(left)
+}
+
+// The steps of what stands behind the first two tokens.
+fn right_side(alloc: Global, bytes: &[u8], tokens: &[Token]) -> Result<Vec<Step>, GrammarError>
+    requires two { 2 ≤ length tokens.now }
+    requires spans { All (IsWithin (length bytes.now)) tokens.now }
+    ensures steps { Gives bytes.now result (steps_from start (symbols_in bytes.now (drop 2 tokens.now))) }
+    ensures within { IfOk result (λ v. All (IsStepWithin (length bytes.now)) v.items) }
+{
+    expression(alloc, bytes, &tokens[2..])
+}
+
+/// The name that an assignment line assigns to, and its expression in post-order. The tokens are those of one line, as
+/// `gadget_text::tokens` gives them; a word that is no name stands in no assignment. That parentheses are nested too deep
+/// is found first, wherever else the line is wrong. Time is linear in the length of the line.
+pub fn assignment(alloc: Global, bytes: &[u8], tokens: &[Token]) -> Result<Assignment, GrammarError>
+    requires { All (IsWithin (length bytes.now)) tokens.now }
+    ensures says { LineSays bytes.now (lexemes_in bytes.now tokens.now) result }
+    ensures name_within { IfOk result (λ a. IsWithin (length bytes.now) a.name) }
+    ensures steps_within { IfOk result (λ a. All (IsStepWithin (length bytes.now)) a.steps.items) }
+    ensures few_steps { IfOk result (λ a. length a.steps.items ≤ length tokens.now) }
+{
+    if is_too_deep(tokens) {
+        return Err(GrammarError::Nesting);
+    }
+    let Some(name) = left_side(bytes, tokens) else {
+        return Err(GrammarError::Syntax);
+    };
+    let steps = right_side(alloc, bytes, tokens)?;
+    Ok(Assignment { name, steps })
+}

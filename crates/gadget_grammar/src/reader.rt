@@ -1,0 +1,184 @@
+//! A reader of expressions that goes once through the tokens, with a stack of its own.
+
+ghost use Rattle.std.specs.Prelude.{◌≡◌, ℕ, List, [], All, length, IfOk, OnOk, true, false};
+ghost use Rattle.gadget_text.specs.Places.{lexeme_in};
+ghost use Rattle.gadget_grammar.specs.Symbols.{symbol_of};
+ghost use Rattle.gadget_grammar.specs.Steps.{sum, product};
+ghost use Rattle.gadget_grammar.specs.Machine.{with_waiting, with_level, next_before_unit, next_behind_unit, next_state, final_steps, steps_from, start};
+ghost use Rattle.gadget_grammar.specs.Seen.{IsWithin, IsStepWithin, symbols_in, steps_in, state_in, Advances, Gives};
+
+use crate::grammar_error::GrammarError;
+use crate::level::Level;
+use crate::name::is_name;
+use crate::step::Step;
+use gadget_text::{Token, TokenKind};
+use std::alloc::{AllocError, Global};
+
+/// How far an expression is read.
+#[derive(Drop)]
+struct Reader {
+    steps: Vec<Step>,
+    /// The levels around the innermost parentheses.
+    outer: Vec<Level>,
+    here: Level,
+    /// Whether a unit stands last.
+    has_unit: bool,
+}
+
+const EMPTY: Level = Level {
+    sum: false,
+    product: false,
+};
+
+// Puts out a product that waits.
+fn end_product(steps: &mut Vec<Step>, level: Level) -> Result<(), AllocError>
+    ensures steps { OnOk result ((bytes : List ℕ) → steps_in bytes steps.new.items ≡ with_waiting level.product product (steps_in bytes steps.old.items)) }
+    ensures within { OnOk result ((len : ℕ) → All (IsStepWithin len) steps.old.items → All (IsStepWithin len) steps.new.items) }
+{
+    if level.product {
+        steps.push(Step::Product)?;
+    }
+    Ok(())
+}
+
+// Puts out a sum that waits.
+fn end_sum(steps: &mut Vec<Step>, level: Level) -> Result<(), AllocError>
+    ensures steps { OnOk result ((bytes : List ℕ) → steps_in bytes steps.new.items ≡ with_waiting level.sum sum (steps_in bytes steps.old.items)) }
+    ensures within { OnOk result ((len : ℕ) → All (IsStepWithin len) steps.old.items → All (IsStepWithin len) steps.new.items) }
+{
+    if level.sum {
+        steps.push(Step::Sum)?;
+    }
+    Ok(())
+}
+
+// Puts out all that waits at a level: a product before a sum, whose right side it is.
+fn end_level(steps: &mut Vec<Step>, level: Level) -> Result<(), AllocError>
+    ensures steps { OnOk result ((bytes : List ℕ) → steps_in bytes steps.new.items ≡ with_level level (steps_in bytes steps.old.items)) }
+    ensures within { OnOk result ((len : ℕ) → All (IsStepWithin len) steps.old.items → All (IsStepWithin len) steps.new.items) }
+{
+    end_product(steps, level)?;
+    end_sum(steps, level)
+}
+
+impl Reader {
+    // Nothing is read.
+    fn new(alloc: Global) -> Reader
+        ensures state { (bytes : List ℕ) → state_in bytes result ≡ start }
+        ensures empty { result.steps.items ≡ [] }
+    {
+        Reader {
+            steps: Vec::new(alloc),
+            outer: Vec::new(alloc),
+            here: EMPTY,
+            has_unit: false,
+        }
+    }
+
+    // Where a unit is wanted, only a name and an opening parenthesis are right.
+    fn begin(&mut self, bytes: &[u8], token: Token) -> Result<(), GrammarError>
+        requires span { IsWithin (length bytes.now) token }
+        requires unit { self.old.has_unit ≡ false }
+        ensures state { Advances result (state_in bytes.now self.new) (next_state (state_in bytes.now self.old) (symbol_of (lexeme_in bytes.now token))) }
+        ensures within { OnOk result (All (IsStepWithin (length bytes.now)) self.old.steps.items → All (IsStepWithin (length bytes.now)) self.new.steps.items) }
+    {
+        match token.kind {
+            TokenKind::Word => {
+                if !is_name(&bytes[token.from as usize..token.to as usize]) {
+                    return Err(GrammarError::Syntax);
+                }
+                self.steps.push(Step::Name(token))?;
+                self.has_unit = true;
+                Ok(())
+            }
+            TokenKind::Open => {
+                self.outer.push(self.here)?;
+                self.here = EMPTY;
+                Ok(())
+            }
+            _ => Err(GrammarError::Syntax),
+        }
+    }
+
+    // Behind a unit, only `+`, `*` and a closing parenthesis are right.
+    fn go_on(&mut self, token: Token) -> Result<(), GrammarError>
+        requires unit { self.old.has_unit ≡ true }
+        ensures state { (bytes : List ℕ) → Advances result (state_in bytes self.new) (next_state (state_in bytes self.old) (symbol_of (lexeme_in bytes token))) }
+        ensures within { OnOk result ((len : ℕ) → All (IsStepWithin len) self.old.steps.items → All (IsStepWithin len) self.new.steps.items) }
+    {
+        match token.kind {
+            TokenKind::Plus => {
+                end_level(&mut self.steps, self.here)?;
+                self.here = Level {
+                    sum: true,
+                    product: false,
+                };
+                self.has_unit = false;
+                Ok(())
+            }
+            TokenKind::Times => {
+                end_product(&mut self.steps, self.here)?;
+                self.here.product = true;
+                self.has_unit = false;
+                Ok(())
+            }
+            TokenKind::Close => {
+                end_level(&mut self.steps, self.here)?;
+                let Some(level) = self.outer.pop() else {
+                    return Err(GrammarError::Syntax);
+                };
+                self.here = level;
+                Ok(())
+            }
+            _ => Err(GrammarError::Syntax),
+        }
+    }
+
+    // Reads one more token.
+    fn advance(&mut self, bytes: &[u8], token: Token) -> Result<(), GrammarError>
+        requires { IsWithin (length bytes.now) token }
+        ensures state { Advances result (state_in bytes.now self.new) (next_state (state_in bytes.now self.old) (symbol_of (lexeme_in bytes.now token))) }
+        ensures within { OnOk result (All (IsStepWithin (length bytes.now)) self.old.steps.items → All (IsStepWithin (length bytes.now)) self.new.steps.items) }
+    {
+        if self.has_unit {
+            self.go_on(token)
+        } else {
+            self.begin(bytes, token)
+        }
+    }
+
+    // The steps, where the expression may end.
+    fn finish(self) -> Result<Vec<Step>, GrammarError>
+        ensures steps { (bytes : List ℕ) → Gives bytes result (final_steps (state_in bytes self)) }
+        ensures within { IfOk result (λ v. (len : ℕ) → All (IsStepWithin len) self.steps.items → All (IsStepWithin len) v.items) }
+    {
+        let Reader {
+            mut steps,
+            outer,
+            here,
+            has_unit,
+        } = self;
+        if !outer.is_empty() || !has_unit {
+            return Err(GrammarError::Syntax);
+        }
+        end_level(&mut steps, here)?;
+        Ok(steps)
+    }
+}
+
+/// The steps of an expression, in post-order.
+pub(crate) fn expression(
+    alloc: Global,
+    bytes: &[u8],
+    tokens: &[Token],
+) -> Result<Vec<Step>, GrammarError>
+    requires { All (IsWithin (length bytes.now)) tokens.now }
+    ensures steps { Gives bytes.now result (steps_from start (symbols_in bytes.now tokens.now)) }
+    ensures within { IfOk result (λ v. All (IsStepWithin (length bytes.now)) v.items) }
+{
+    let mut reader = Reader::new(alloc);
+    for token in tokens {
+        reader.advance(bytes, *token)?;
+    }
+    reader.finish()
+}
