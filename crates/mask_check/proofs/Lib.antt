@@ -2,4 +2,4 @@ pub mod Walks
 pub mod ReportTexts
 pub mod Decisions
 pub mod Completions
-pub mod TableRefusals
+pub mod AfterReading

@@ -35,4 +35,4 @@ Refuses words run statuses.ReadFault = IsAsked words × (run.sink_after ≡ run.
 Refuses words run statuses.WriteFault =
     Rose (run.write_faults run.sink) (run.write_faults run.sink_after)
     × BreaksOff words (run.left run.source) (run.left run.source_after) (run.written run.sink) (run.written run.sink_after)
-Refuses words run statuses.OutOfMemory = IsAsked words × (run.sink_after ≡ run.sink)
+Refuses words run statuses.OutOfMemory = IsAsked words × (run.sink_after ≡ run.sink) × LosesAtMost (run.left run.source) (run.left run.source_after) 1048577

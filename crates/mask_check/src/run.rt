@@ -48,6 +48,7 @@ pub fn check<S: Source, K: Sink>(
     ensures write_faultless { result ≢ Status.WriteFault → K.faults sink.new ≡ K.faults sink.old }
 
     // What a refusal leaves.
+    ensures one_more_at_most { result ≡ Status.OutOfMemory → LosesAtMost (S.left source.old) (S.left source.new) 1048577 }
     ensures nothing_read { (kind : _) → result ≡ Status.Usage kind → source.new ≡ source.old }
     ensures nothing_written { WritesNothing result → sink.new ≡ sink.old }
     ensures prefix { result ≡ Status.WriteFault → BreaksOff (map string_bytes words.now) (S.left source.old) (S.left source.new) (K.written sink.old) (K.written sink.new) }
