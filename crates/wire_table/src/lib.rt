@@ -2,6 +2,7 @@
 #![tactic(auto)]
 
 mod class_check;
+mod item;
 mod polynomials;
 mod products;
 mod table;
@@ -10,6 +11,7 @@ mod terms;
 mod use_counts;
 mod wire_error;
 
+pub use item::{Item, ItemKind};
 pub use table::WireTable;
 pub use wire_error::WireError;
 
