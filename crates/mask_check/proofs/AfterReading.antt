@@ -33,6 +33,19 @@ LosesAtMost-at_end (Some bs) (Some xs) most few end rest =
     let m = length-append rest.0 xs in
     (rest.0, rest.1, omega arith)
 
+-- a run that has written nothing yet
+abbrev pub unwritten : {S K : Type 0} → (S → Option (List ℕ)) → (S → ℕ) → (K → Option (List ℕ)) → (K → ℕ) → S → S → K → Run S K
+unwritten left read_faults written write_faults source source_after sink = record {
+  left = left;
+  read_faults = read_faults;
+  written = written;
+  write_faults = write_faults;
+  source = source;
+  source_after = source_after;
+  sink = sink;
+  sink_after = sink;
+}
+
 module _ {S K : Type 0} (words : List (List ℕ)) (run : Run S K) (bytes : List ℕ) (asked : IsAsked words) (kept : run.sink_after ≡ run.sink)
     (short : length bytes ≤ 1048576) (whole : IfSome (run.left run.source) (λ left. bytes ≡ left))
     (end : IsAtEnd (run.left run.source_after)) (rest : LeavesSuffix (run.left run.source) (run.left run.source_after)) where

@@ -163,56 +163,66 @@ pub fn exit_status(status: &Status) -> u8
 mod tests {
     use super::*;
 
+    // Statuses, and the text and the exit status of each.
+    const TABLE: [(Status, &[u8], u8); 15] = [
+        (Status::Yes, b"", 0),
+        (
+            Status::Usage(UsageKind::Words),
+            b"mask: usage: mask TASK ARG [options]",
+            2,
+        ),
+        (Status::No, b"", 1),
+        (Status::Usage(UsageKind::Task), b"mask: unknown task", 2),
+        (Status::Usage(UsageKind::Argument), b"mask: bad argument", 2),
+        (
+            Status::File(FileError::Syntax(4294967295)),
+            b"mask: line 4294967295: syntax",
+            3,
+        ),
+        (
+            Status::File(FileError::OutOfMemory),
+            b"mask: out of memory",
+            8,
+        ),
+        (
+            Status::Wires(WireError::TooWide {
+                var: 6,
+                line: 4294967295,
+            }),
+            b"mask: line 4294967295: too many monomials",
+            3,
+        ),
+        (
+            Status::Wires(WireError::RandomProduct {
+                var: 6,
+                line: 4294967295,
+            }),
+            b"mask: line 4294967295: random in a product",
+            3,
+        ),
+        (
+            Status::Wires(WireError::Degree {
+                var: 6,
+                line: 4294967295,
+            }),
+            b"mask: line 4294967295: degree above 2",
+            3,
+        ),
+        (
+            Status::Wires(WireError::OutOfMemory),
+            b"mask: out of memory",
+            8,
+        ),
+        (Status::TooLong, b"mask: file too long", 3),
+        (Status::ReadFault, b"mask: read failed", 6),
+        (Status::WriteFault, b"mask: write failed", 7),
+        (Status::OutOfMemory, b"mask: out of memory", 8),
+    ];
+
     #[test]
     fn each_status_has_its_text_and_exit_status(rt: HostRuntime) {
-        let (var, line) = (6, 4294967295);
-        let table: [(Status, &[u8], u8); 15] = [
-            (Status::Yes, b"", 0),
-            (
-                Status::Usage(UsageKind::Words),
-                b"mask: usage: mask TASK ARG [options]",
-                2,
-            ),
-            (Status::No, b"", 1),
-            (Status::Usage(UsageKind::Task), b"mask: unknown task", 2),
-            (Status::Usage(UsageKind::Argument), b"mask: bad argument", 2),
-            (
-                Status::File(FileError::Syntax(4294967295)),
-                b"mask: line 4294967295: syntax",
-                3,
-            ),
-            (
-                Status::File(FileError::OutOfMemory),
-                b"mask: out of memory",
-                8,
-            ),
-            (
-                Status::Wires(WireError::TooWide { var, line }),
-                b"mask: line 4294967295: too many monomials",
-                3,
-            ),
-            (
-                Status::Wires(WireError::RandomProduct { var, line }),
-                b"mask: line 4294967295: random in a product",
-                3,
-            ),
-            (
-                Status::Wires(WireError::Degree { var, line }),
-                b"mask: line 4294967295: degree above 2",
-                3,
-            ),
-            (
-                Status::Wires(WireError::OutOfMemory),
-                b"mask: out of memory",
-                8,
-            ),
-            (Status::TooLong, b"mask: file too long", 3),
-            (Status::ReadFault, b"mask: read failed", 6),
-            (Status::WriteFault, b"mask: write failed", 7),
-            (Status::OutOfMemory, b"mask: out of memory", 8),
-        ];
         let mut line = Line::new();
-        for (status, text, exit) in table {
+        for (status, text, exit) in TABLE {
             status_text(&status, &mut line);
             assert_eq!(rt; line.bytes(), text, "at {status:?}");
             assert_eq!(rt; exit_status(&status), exit, "at {status:?}");
