@@ -1,16 +1,13 @@
 -- One more symbol behind a unit.
 use Rattle.std.proofs.Common.{◌≡◌, ℕ, Bool, true, false, cond, List, [], ◌∷◌, reverse, Some, Result, Ok, Err, sym, ap, ◌∙◌}
-use Rattle.std.specs.Prelude.{All, IfOk, OnOk}
-use Rattle.std.specs.declared.vec.Vec.{Vec}
-use Rattle.std.specs.declared.alloc.Global.{Global}
+use Rattle.std.specs.Prelude.{OnOk}
 use Rattle.std.specs.declared.alloc.AllocError.{AllocError}
 use Rattle.gadget_grammar.specs.declared.level.Level.{Level}
 use Rattle.gadget_grammar.specs.declared.step.Step.{Step}
-use Rattle.gadget_grammar.specs.declared.grammar_error.GrammarError.{GrammarError}
 use Rattle.gadget_grammar.specs.Symbols.{Symbol, plus, times, closing}
 use Rattle.gadget_grammar.specs.Steps.{NamedStep, sum, product}
 use Rattle.gadget_grammar.specs.Machine.{State, with_waiting, with_level, next_before_unit, next_behind_unit, after_closing, next_state, final_steps, final_steps_at}
-use Rattle.gadget_grammar.specs.Seen.{steps_in, IsStepWithin}
+use Rattle.gadget_grammar.specs.Seen.{steps_in}
 
 -- a product, and then a sum, are put out
 pub level_ended : (old mid new : List Step) (level : Level) (r : Result (Unit {0}) AllocError) →
@@ -56,21 +53,3 @@ pub level_finished : (steps new : List NamedStep) (outer : List Level) (here : L
     final_steps (record { steps = steps; outer = reverse outer; here = here; has_unit = has_unit }) ≡ Some new
 level_finished steps new outer here has_unit e f g =
     ap (λ (z : List Level). final_steps_at steps (reverse z) here has_unit) e ∙ ap (final_steps_at steps [] here) f ∙ ap Some (sym g)
-
--- where each part keeps steps within so many bytes, so do both
-pub level_within : (old mid new : List Step) (r : Result (Unit {0}) AllocError) →
-    ((len : ℕ) → All (IsStepWithin len) old → All (IsStepWithin len) mid) →
-    OnOk r ((len : ℕ) → All (IsStepWithin len) mid → All (IsStepWithin len) new) → OnOk r ((len : ℕ) → All (IsStepWithin len) old → All (IsStepWithin len) new)
-level_within old mid new (Ok u) h k = λ len a. k len (h len a)
-level_within old mid new (Err e) h k = tt
-
--- what the end keeps within the bytes is so where the steps before it are
-pub finish_within : (len : ℕ) (steps : List Step) (r : Result (Vec Step Global) GrammarError) →
-    IfOk r (λ v. (n : ℕ) → All (IsStepWithin n) steps → All (IsStepWithin n) v.items) → All (IsStepWithin len) steps → IfOk r (λ v. All (IsStepWithin len) v.items)
-finish_within len steps (Ok v) h k = h len k
-finish_within len steps (Err e) h k = tt
-
--- what holds for every number of bytes holds for one
-pub on_ok_at : {A E : Type 0} (r : Result A E) (P : ℕ → Type 0) (len : ℕ) → OnOk r ((n : ℕ) → P n) → OnOk r (P len)
-on_ok_at (Ok a) P len h = h len
-on_ok_at (Err e) P len h = tt

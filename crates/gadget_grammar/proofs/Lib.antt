@@ -1,4 +1,3 @@
-pub mod Dots
 pub mod Advances
 pub mod TreeReader
 pub mod Complete
@@ -8,5 +7,5 @@ pub mod Readings
 pub mod Values
 pub mod Depth
 pub mod Lines
-pub mod NameParts
-pub mod Spans
+pub mod Words
+pub mod Decided

@@ -3,17 +3,17 @@ use Rattle.std.proofs.Common.{◌≡◌, ◌≤◌, ◌+◌, ℕ, Bool, true, fa
 use Rattle.std.proofs.lemmas.List.{length-map}
 use Rattle.gadget_text.specs.declared.token.Token.{Token}
 use Rattle.gadget_text.specs.Tokens.{Lexeme}
-use Rattle.gadget_text.specs.Places.{lexeme_in}
+use Rattle.gadget_text.specs.Places.{lexeme_in, lexemes_in}
 use Rattle.gadget_grammar.specs.declared.step.Step.{Step}
 use Rattle.gadget_grammar.specs.declared.grammar_error.GrammarError.{GrammarError}
 use Rattle.gadget_grammar.specs.declared.grammar_error.GrammarError.TheVariants.{Nesting, Syntax, OutOfMemory}
-use Rattle.gadget_grammar.specs.Names.{is_name}
+use Rattle.gadget_text.specs.Names.{is_name}
 use Rattle.gadget_grammar.specs.Symbols.{Symbol, word, equals, plus, times, closing, symbol_of, symbols_of}
 use Rattle.gadget_grammar.specs.Grammar.{Tree, named, parens, sum_of, product_of, spelled, IsAssignment}
 use Rattle.gadget_grammar.specs.Steps.{NamedStep, sum, product, postfix}
 use Rattle.gadget_grammar.specs.Nesting.{IsTooDeep, is_too_deep}
 use Rattle.gadget_grammar.specs.Machine.{left_name, steps_from, start}
-use Rattle.gadget_grammar.specs.Seen.{symbols_in, lexemes_in, step_in, steps_in, Gives, LineSays}
+use Rattle.gadget_grammar.specs.Seen.{symbols_in, step_in, steps_in, Gives, LineSays}
 use Rattle.gadget_grammar.proofs.Depth.{deep_at, walk_deep}
 use Rattle.gadget_grammar.proofs.Readings.{run_spelled, run_has_tree}
 

@@ -1,7 +1,7 @@
 -- A tree that is read derives by the grammar, and stands for the symbols.
 use Rattle.std.proofs.Common.{◌≡◌, ℕ, Bool, true, false, cond, List, [], ◌∷◌, ◌++◌, Option, Some, None, refl, sym, ap, ◌∙◌, subst, append_assoc, append-nil}
 use Rattle.std.specs.Prelude.{option_and_then, IfSome}
-use Rattle.gadget_grammar.specs.Names.{is_name}
+use Rattle.gadget_text.specs.Names.{is_name}
 use Rattle.gadget_grammar.specs.Symbols.{Symbol, word, equals, plus, times, opening, closing, other}
 use Rattle.gadget_grammar.specs.Grammar.{Tree, named, parens, sum_of, product_of, spelled, Rule, expr, term, unit, Derives}
 use Rattle.gadget_grammar.proofs.TreeReader.{TreeLevel, TreeState, joined, whole, next_before_unit, next_behind_unit, next_state, next_state_at, final_tree, final_tree_at, tree_from, start}

@@ -1,6 +1,6 @@
 -- The reader that keeps trees in place of steps.
 use Rattle.std.specs.Prelude.{if◌then◌else◌, List, [], ◌∷◌, Option, Some, None, option_and_then}
-use Rattle.gadget_grammar.specs.Names.{is_name}
+use Rattle.gadget_text.specs.Names.{is_name}
 use Rattle.gadget_grammar.specs.Symbols.{Symbol, word, plus, times, opening, closing}
 use Rattle.gadget_grammar.specs.Grammar.{Tree, named, parens, sum_of, product_of}
 

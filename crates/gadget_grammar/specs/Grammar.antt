@@ -6,7 +6,7 @@
 --     unit   = name | "(" expr ")"
 use Rattle.std.specs.Prelude.{◌≡◌, ℕ, IsTrue, List, [], ◌∷◌, ◌++◌}
 use Rattle.gadget_text.specs.Tokens.{Lexeme}
-use Rattle.gadget_grammar.specs.Names.{is_name}
+use Rattle.gadget_text.specs.Names.{is_name}
 use Rattle.gadget_grammar.specs.Symbols.{Symbol, word, equals, plus, times, opening, closing, symbols_of}
 
 -- a derivation tree

@@ -1,4 +1,3 @@
-pub mod Names
 pub mod Symbols
 pub mod Grammar
 pub mod Steps

@@ -1,7 +1,7 @@
 -- A reader of expressions that goes once through the symbols, with a stack.
 use Rattle.std.specs.Prelude.{ℕ, Bool, true, false, if◌then◌else◌, List, [], ◌∷◌, ◌++◌, Option, Some, None, option_and_then}
 use Rattle.gadget_grammar.specs.declared.level.Level.{Level}
-use Rattle.gadget_grammar.specs.Names.{is_name}
+use Rattle.gadget_text.specs.Names.{is_name}
 use Rattle.gadget_grammar.specs.Symbols.{Symbol, word, equals, plus, times, opening, closing}
 use Rattle.gadget_grammar.specs.Steps.{NamedStep, name, sum, product}
 
@@ -44,6 +44,7 @@ next_behind_unit steps outer here times = Some (record { steps = with_waiting he
 next_behind_unit steps outer here closing = after_closing (with_level here steps) outer
 next_behind_unit steps outer here symbol = None
 
+-- the state after one more symbol, where that is right here
 abbrev pub next_state : State → Symbol → Option State
 next_state s symbol = if s.has_unit then next_behind_unit s.steps s.outer s.here symbol else next_before_unit s.steps s.outer s.here symbol
 
@@ -52,6 +53,7 @@ abbrev pub final_steps_at : List NamedStep → List Level → Level → Bool →
 final_steps_at steps [] here true = Some (with_level here steps)
 final_steps_at steps outer here has_unit = None
 
+-- the steps of a state, where the expression may end
 abbrev pub final_steps : State → Option (List NamedStep)
 final_steps s = final_steps_at s.steps s.outer s.here s.has_unit
 

@@ -1,10 +1,12 @@
 -- The code's values without their places.
-use Rattle.std.specs.Prelude.{◌≡◌, ℕ, ◌≤◌, List, map, reverse, slice_range, Option, Some, None, Result, Ok, Err}
+use Rattle.std.specs.Prelude.{◌≡◌, ℕ, List, [], ◌∷◌, map, flat_map, reverse, Option, Some, None, Result, Ok, Err}
 use Rattle.std.specs.declared.vec.Vec.{Vec}
 use Rattle.std.specs.declared.alloc.Global.{Global}
 use Rattle.gadget_text.specs.declared.token.Token.{Token}
+use Rattle.gadget_text.specs.declared.token.TokenKind.{TokenKind}
+use Rattle.gadget_text.specs.declared.token.TokenKind.TheVariants.{Word}
 use Rattle.gadget_text.specs.Tokens.{Lexeme}
-use Rattle.gadget_text.specs.Places.{lexeme_in}
+use Rattle.gadget_text.specs.Places.{IsWithin, text_in, lexemes_in}
 use Rattle.gadget_grammar.specs.declared.step.Step.{Step}
 use Rattle.gadget_grammar.specs.declared.step.Step.TheVariants as code
 use Rattle.gadget_grammar.specs.declared.step.Assignment.{Assignment}
@@ -17,19 +19,7 @@ use Rattle.gadget_grammar.specs.Steps.{NamedStep, name, sum, product, postfix}
 use Rattle.gadget_grammar.specs.Nesting.{IsTooDeep}
 use Rattle.gadget_grammar.specs.Machine.{State}
 
--- the token lies within so many bytes
-pub record IsWithin (len : ℕ) (token : Token) : Type 0 where
-  pub rises : token.from ≤ token.to
-  pub ends : token.to ≤ len
-
--- the text of a token is its slice of the bytes
-abbrev pub text_in : List ℕ → Token → List ℕ
-text_in bytes token = slice_range bytes token.from token.to
-
--- the tokens without their places
-abbrev pub lexemes_in : List ℕ → List Token → List Lexeme
-lexemes_in bytes tokens = map (lexeme_in bytes) tokens
-
+-- the symbols of tokens of these bytes
 abbrev pub symbols_in : List ℕ → List Token → List Symbol
 symbols_in bytes tokens = symbols_of (lexemes_in bytes tokens)
 
@@ -39,8 +29,27 @@ step_in bytes (code.Name token) = name (text_in bytes token)
 step_in bytes code.Sum = sum
 step_in bytes code.Product = product
 
+-- steps with the texts of their names
 abbrev pub steps_in : List ℕ → List Step → List NamedStep
 steps_in bytes steps = map (step_in bytes) steps
+
+-- the token of a step, where it is a name
+abbrev pub step_tokens : Step → List Token
+step_tokens (code.Name token) = token ∷ []
+step_tokens step = []
+
+-- the tokens of the names among steps, in order
+abbrev pub name_tokens : List Step → List Token
+name_tokens steps = flat_map step_tokens steps
+
+-- a token of this kind, where it is a word
+abbrev pub where_word : TokenKind → Token → List Token
+where_word Word token = token ∷ []
+where_word kind token = []
+
+-- the words among tokens, in order
+abbrev pub word_tokens : List Token → List Token
+word_tokens tokens = flat_map (λ t. where_word t.kind t) tokens
 
 -- the name of a step lies within so many bytes
 abbrev pub IsStepWithin : ℕ → Step → Type 0

@@ -28,7 +28,7 @@ value m (parens t) = value m t
 value m (sum_of a b) = m.of_sum (value m a) (value m b)
 value m (product_of a b) = m.of_product (value m a) (value m b)
 
--- what a step makes of a stack of values, which keeps what is too short
+-- what a step makes of a stack of values; a sum or a product leaves a stack of less than two as it is
 abbrev pub after_step : {V : Type 0} → Meaning V → NamedStep → List V → List V
 after_step m (name word) stack = m.of_name word ∷ stack
 after_step m sum (b ∷ a ∷ stack) = m.of_sum a b ∷ stack

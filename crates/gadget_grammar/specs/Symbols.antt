@@ -14,6 +14,7 @@ pub data Symbol : Type 0 where
   closing : Symbol
   other : Symbol
 
+-- the symbol of a token of this kind with this text; a header is no part of an expression
 abbrev pub symbol_of_kind : TokenKind → List ℕ → Symbol
 symbol_of_kind (kind.Head header) text = other
 symbol_of_kind kind.Word text = word text
@@ -24,8 +25,10 @@ symbol_of_kind kind.Open text = opening
 symbol_of_kind kind.Close text = closing
 symbol_of_kind kind.Other text = other
 
+-- the symbol of a token
 abbrev pub symbol_of : Lexeme → Symbol
 symbol_of lexeme = symbol_of_kind lexeme.kind lexeme.text
 
+-- the symbols of tokens
 abbrev pub symbols_of : List Lexeme → List Symbol
 symbols_of lexemes = map symbol_of lexemes

@@ -1,15 +1,15 @@
 //! An assignment line.
 
-ghost use Rattle.std.specs.Prelude.{◌≡◌, ◌≤◌, All, IfOk, IfSome, length, drop, option_map};
+ghost use Rattle.std.specs.Prelude.{◌≡◌, ◌≤◌, ◌∷◌, All, IfOk, IfSome, length, drop, option_map};
+ghost use Rattle.gadget_text.specs.Places.{IsWithin, lexemes_in, text_in};
 ghost use Rattle.gadget_grammar.specs.Machine.{left_name, steps_from, start};
-ghost use Rattle.gadget_grammar.specs.Seen.{IsWithin, IsStepWithin, text_in, lexemes_in, symbols_in, Gives, LineSays};
+ghost use Rattle.gadget_grammar.specs.Seen.{IsStepWithin, symbols_in, name_tokens, word_tokens, Gives, LineSays};
 
 use crate::grammar_error::GrammarError;
-use crate::name::is_name;
 use crate::nesting::is_too_deep;
 use crate::reader::expression;
 use crate::step::{Assignment, Step};
-use gadget_text::{Token, TokenKind};
+use gadget_text::{Token, TokenKind, is_name};
 use std::alloc::Global;
 
 // The name on the left side, where a line begins with a name and `=`.
@@ -18,6 +18,7 @@ fn left_side(bytes: &[u8], tokens: &[Token]) -> Option<Token>
     ensures name { option_map (text_in bytes.now) result ≡ left_name (symbols_in bytes.now tokens.now) }
     ensures within { IfSome result (IsWithin (length bytes.now)) }
     ensures two { IfSome result (λ _. 2 ≤ length tokens.now) }
+    ensures word { IfSome result (λ t. word_tokens tokens.now ≡ t ∷ word_tokens (drop 2 tokens.now)) }
 {
     if tokens.len() < 2 {
         return None;
@@ -37,7 +38,7 @@ fn right_side(alloc: Global, bytes: &[u8], tokens: &[Token]) -> Result<Vec<Step>
     requires two { 2 ≤ length tokens.now }
     requires spans { All (IsWithin (length bytes.now)) tokens.now }
     ensures steps { Gives bytes.now result (steps_from start (symbols_in bytes.now (drop 2 tokens.now))) }
-    ensures within { IfOk result (λ v. All (IsStepWithin (length bytes.now)) v.items) }
+    ensures names { IfOk result (λ v. name_tokens v.items ≡ word_tokens (drop 2 tokens.now)) }
 {
     expression(alloc, bytes, &tokens[2..])
 }
@@ -48,6 +49,7 @@ fn right_side(alloc: Global, bytes: &[u8], tokens: &[Token]) -> Result<Vec<Step>
 pub fn assignment(alloc: Global, bytes: &[u8], tokens: &[Token]) -> Result<Assignment, GrammarError>
     requires { All (IsWithin (length bytes.now)) tokens.now }
     ensures says { LineSays bytes.now (lexemes_in bytes.now tokens.now) result }
+    ensures words { IfOk result (λ a. word_tokens tokens.now ≡ a.name ∷ name_tokens a.steps.items) }
     ensures name_within { IfOk result (λ a. IsWithin (length bytes.now) a.name) }
     ensures steps_within { IfOk result (λ a. All (IsStepWithin (length bytes.now)) a.steps.items) }
     ensures few_steps { IfOk result (λ a. length a.steps.items ≤ length tokens.now) }

@@ -1,17 +1,16 @@
 //! A reader of expressions that goes once through the tokens, with a stack of its own.
 
-ghost use Rattle.std.specs.Prelude.{◌≡◌, ℕ, List, [], All, length, IfOk, OnOk, true, false};
-ghost use Rattle.gadget_text.specs.Places.{lexeme_in};
+ghost use Rattle.std.specs.Prelude.{◌≡◌, ℕ, List, [], ◌++◌, All, length, IfOk, OnOk, true, false};
+ghost use Rattle.gadget_text.specs.Places.{lexeme_in, IsWithin};
 ghost use Rattle.gadget_grammar.specs.Symbols.{symbol_of};
 ghost use Rattle.gadget_grammar.specs.Steps.{sum, product};
 ghost use Rattle.gadget_grammar.specs.Machine.{with_waiting, with_level, next_before_unit, next_behind_unit, next_state, final_steps, steps_from, start};
-ghost use Rattle.gadget_grammar.specs.Seen.{IsWithin, IsStepWithin, symbols_in, steps_in, state_in, Advances, Gives};
+ghost use Rattle.gadget_grammar.specs.Seen.{symbols_in, steps_in, name_tokens, where_word, word_tokens, state_in, Advances, Gives};
 
 use crate::grammar_error::GrammarError;
 use crate::level::Level;
-use crate::name::is_name;
 use crate::step::Step;
-use gadget_text::{Token, TokenKind};
+use gadget_text::{Token, TokenKind, is_name};
 use std::alloc::{AllocError, Global};
 
 /// How far an expression is read.
@@ -33,7 +32,7 @@ const EMPTY: Level = Level {
 // Puts out a product that waits.
 fn end_product(steps: &mut Vec<Step>, level: Level) -> Result<(), AllocError>
     ensures steps { OnOk result ((bytes : List ℕ) → steps_in bytes steps.new.items ≡ with_waiting level.product product (steps_in bytes steps.old.items)) }
-    ensures within { OnOk result ((len : ℕ) → All (IsStepWithin len) steps.old.items → All (IsStepWithin len) steps.new.items) }
+    ensures names { OnOk result (name_tokens steps.new.items ≡ name_tokens steps.old.items) }
 {
     if level.product {
         steps.push(Step::Product)?;
@@ -44,7 +43,7 @@ fn end_product(steps: &mut Vec<Step>, level: Level) -> Result<(), AllocError>
 // Puts out a sum that waits.
 fn end_sum(steps: &mut Vec<Step>, level: Level) -> Result<(), AllocError>
     ensures steps { OnOk result ((bytes : List ℕ) → steps_in bytes steps.new.items ≡ with_waiting level.sum sum (steps_in bytes steps.old.items)) }
-    ensures within { OnOk result ((len : ℕ) → All (IsStepWithin len) steps.old.items → All (IsStepWithin len) steps.new.items) }
+    ensures names { OnOk result (name_tokens steps.new.items ≡ name_tokens steps.old.items) }
 {
     if level.sum {
         steps.push(Step::Sum)?;
@@ -55,7 +54,7 @@ fn end_sum(steps: &mut Vec<Step>, level: Level) -> Result<(), AllocError>
 // Puts out all that waits at a level: a product before a sum, whose right side it is.
 fn end_level(steps: &mut Vec<Step>, level: Level) -> Result<(), AllocError>
     ensures steps { OnOk result ((bytes : List ℕ) → steps_in bytes steps.new.items ≡ with_level level (steps_in bytes steps.old.items)) }
-    ensures within { OnOk result ((len : ℕ) → All (IsStepWithin len) steps.old.items → All (IsStepWithin len) steps.new.items) }
+    ensures names { OnOk result (name_tokens steps.new.items ≡ name_tokens steps.old.items) }
 {
     end_product(steps, level)?;
     end_sum(steps, level)
@@ -80,7 +79,7 @@ impl Reader {
         requires span { IsWithin (length bytes.now) token }
         requires unit { self.old.has_unit ≡ false }
         ensures state { Advances result (state_in bytes.now self.new) (next_state (state_in bytes.now self.old) (symbol_of (lexeme_in bytes.now token))) }
-        ensures within { OnOk result (All (IsStepWithin (length bytes.now)) self.old.steps.items → All (IsStepWithin (length bytes.now)) self.new.steps.items) }
+        ensures names { OnOk result (name_tokens self.new.steps.items ≡ name_tokens self.old.steps.items ++ where_word token.kind token) }
     {
         match token.kind {
             TokenKind::Word => {
@@ -104,7 +103,7 @@ impl Reader {
     fn go_on(&mut self, token: Token) -> Result<(), GrammarError>
         requires unit { self.old.has_unit ≡ true }
         ensures state { (bytes : List ℕ) → Advances result (state_in bytes self.new) (next_state (state_in bytes self.old) (symbol_of (lexeme_in bytes token))) }
-        ensures within { OnOk result ((len : ℕ) → All (IsStepWithin len) self.old.steps.items → All (IsStepWithin len) self.new.steps.items) }
+        ensures names { OnOk result (name_tokens self.new.steps.items ≡ name_tokens self.old.steps.items ++ where_word token.kind token) }
     {
         match token.kind {
             TokenKind::Plus => {
@@ -138,7 +137,7 @@ impl Reader {
     fn advance(&mut self, bytes: &[u8], token: Token) -> Result<(), GrammarError>
         requires { IsWithin (length bytes.now) token }
         ensures state { Advances result (state_in bytes.now self.new) (next_state (state_in bytes.now self.old) (symbol_of (lexeme_in bytes.now token))) }
-        ensures within { OnOk result (All (IsStepWithin (length bytes.now)) self.old.steps.items → All (IsStepWithin (length bytes.now)) self.new.steps.items) }
+        ensures names { OnOk result (name_tokens self.new.steps.items ≡ name_tokens self.old.steps.items ++ where_word token.kind token) }
     {
         if self.has_unit {
             self.go_on(token)
@@ -150,7 +149,7 @@ impl Reader {
     // The steps, where the expression may end.
     fn finish(self) -> Result<Vec<Step>, GrammarError>
         ensures steps { (bytes : List ℕ) → Gives bytes result (final_steps (state_in bytes self)) }
-        ensures within { IfOk result (λ v. (len : ℕ) → All (IsStepWithin len) self.steps.items → All (IsStepWithin len) v.items) }
+        ensures names { IfOk result (λ v. name_tokens v.items ≡ name_tokens self.steps.items) }
     {
         let Reader {
             mut steps,
@@ -174,7 +173,7 @@ pub(crate) fn expression(
 ) -> Result<Vec<Step>, GrammarError>
     requires { All (IsWithin (length bytes.now)) tokens.now }
     ensures steps { Gives bytes.now result (steps_from start (symbols_in bytes.now tokens.now)) }
-    ensures within { IfOk result (λ v. All (IsStepWithin (length bytes.now)) v.items) }
+    ensures names { IfOk result (λ v. name_tokens v.items ≡ word_tokens tokens.now) }
 {
     let mut reader = Reader::new(alloc);
     for token in tokens {

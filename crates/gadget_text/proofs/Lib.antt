@@ -8,3 +8,8 @@ pub mod Sides
 pub mod Slices
 pub mod Spans
 pub mod LineRuns
+pub mod Within
+pub mod Dots
+pub mod NameParts
+pub mod WordBytes
+pub mod SpacedWords

@@ -1,12 +1,13 @@
 -- The tokens of a file by their lines.
-use Rattle.std.proofs.Common.{◌≡◌, ◌<◌, ◌+◌, ℕ, [], ◌∷◌, ◌++◌, Bool, true, false, List, cond, eqb, length, drop, map, flat_map, refl, sym, ap, ◌∙◌, subst, arith, append-nil, take, suc}
+use Rattle.std.proofs.Common.{◌≡◌, ◌<◌, ◌+◌, ℕ, [], ◌∷◌, ◌++◌, Bool, true, false, List, cond, eqb, length, drop, map, flat_map, refl, sym, ap, ◌∙◌, subst, arith, append-nil, take, suc, true≢false}
+use Rattle.std.specs.Prelude.{slice_index_or}
 use Rattle.std.proofs.lemmas.Bool.{ne_eqb, eq-eqb, eqb-true}
 use Rattle.std.specs.List.{prefix_len}
 use Rattle.gadget_text.specs.declared.token.Token.{Token}
 use Rattle.gadget_text.specs.Lines.{pieces_of, without_return}
 use Rattle.gadget_text.specs.Segments.{Segment, gap, token, line_segments}
 use Rattle.gadget_text.specs.Tokens.{Lexeme, TokenLine, line_lexemes, onto_lines, numbered_lines, token_lines}
-use Rattle.gadget_text.specs.Places.{placed, placed_lines, tokens_of, lexeme_in, onto_run, runs_by_line, line_in}
+use Rattle.gadget_text.specs.Places.{placed, placed_lines, tokens_of, lexeme_in, lexemes_in, onto_run, runs_by_line, line_in, lines_in}
 use Rattle.gadget_text.proofs.Slices.{fed, fed_file, line_texts, next_at}
 
 -- all are of this line
@@ -115,3 +116,26 @@ more_by_cases false t u us e ih =
 pub first_run : (t : Token) (ts : List Token) → runs_by_line (t ∷ ts) ≡ run_of t (prefix_len (is_of t.line) ts) ts
 first_run t [] = refl
 first_run t (u ∷ us) = more_by_cases (eqb u.line t.line) t u us refl (first_run u us)
+
+-- the lines of tokens, by the run of the first
+lines_first : (bytes : List ℕ) (t : Token) (ts : List Token) (n : ℕ) → n ≡ 1 + prefix_len (is_of t.line) ts →
+    lines_in bytes (t ∷ ts) ≡ record { number = t.line; lexemes = lexemes_in bytes (take n (t ∷ ts)) } ∷ lines_in bytes (drop n (t ∷ ts))
+lines_first bytes t ts n e =
+    let m = prefix_len (is_of t.line) ts in
+    let s : suc m ≡ n = omega (arith, e) in
+    ap (flat_map (line_in bytes)) (first_run t ts)
+    ∙ ap (λ (k : ℕ). record { number = t.line; lexemes = lexemes_in bytes (take k (t ∷ ts)) } ∷ lines_in bytes (drop k (t ∷ ts))) s
+
+own_line : (t : Token) (ts : List Token) → prefix_len (is_of t.line) (t ∷ ts) ≡ 1 + prefix_len (is_of t.line) ts
+own_line t ts = ap (λ (b : Bool). cond b (1 + prefix_len (is_of t.line) ts) 0) (eq-eqb t.line t.line refl)
+
+-- the lines of tokens, of which so many are of the line of the first
+pub first_line_of : (bytes : List ℕ) (tokens own rest : List Token) (line n : ℕ) (default : Token) → false ≡ eqb (length tokens) 0 →
+    line ≡ (slice_index_or tokens 0 default).line → n ≡ prefix_len (is_of (slice_index_or tokens 0 default).line) tokens → own ≡ take n tokens → rest ≡ drop n tokens →
+    lines_in bytes tokens ≡ record { number = line; lexemes = lexemes_in bytes own } ∷ lines_in bytes rest
+first_line_of bytes [] own rest line n default l d e f g = absurd (true≢false (sym l))
+first_line_of bytes (t ∷ ts) own rest line n default l d e f g =
+    lines_first bytes t ts n (e ∙ own_line t ts)
+    ∙ ap (λ (k : ℕ). record { number = k; lexemes = lexemes_in bytes (take n (t ∷ ts)) } ∷ lines_in bytes (drop n (t ∷ ts))) (sym d)
+    ∙ ap (λ (z : List Token). record { number = line; lexemes = lexemes_in bytes z } ∷ lines_in bytes (drop n (t ∷ ts))) (sym f)
+    ∙ ap (λ (z : List Token). record { number = line; lexemes = lexemes_in bytes own } ∷ lines_in bytes z) (sym g)

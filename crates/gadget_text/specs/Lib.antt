@@ -3,3 +3,4 @@ pub mod Lines
 pub mod Segments
 pub mod Tokens
 pub mod Places
+pub mod Names

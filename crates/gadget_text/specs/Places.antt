@@ -1,5 +1,5 @@
 -- The tokens of a file with their places.
-use Rattle.std.specs.Prelude.{◌≡◌, ℕ, ◌+◌, ◌<◌, ◌≤◌, ◌==◌, if◌then◌else◌, List, [], ◌∷◌, ◌++◌, map, length, slice_range, Option, Some}
+use Rattle.std.specs.Prelude.{◌≡◌, ℕ, ◌+◌, ◌<◌, ◌≤◌, ◌==◌, if◌then◌else◌, List, [], ◌∷◌, ◌++◌, map, length, slice_range, flat_map, Option, Some}
 use Rattle.gadget_text.specs.declared.token.Token.{Token}
 use Rattle.gadget_text.specs.declared.token.TextError.{TextError}
 use Rattle.gadget_text.specs.declared.token.TextError.TheVariants.{NotText, OutOfMemory}
@@ -30,9 +30,22 @@ abbrev pub NamesLine : Option ℕ → TextError → Type 0
 NamesLine line (NotText number) = line ≡ Some number
 NamesLine line OutOfMemory = Unit {0}
 
--- a token of a file without its place: its text is its slice of the bytes
+-- the text of a token is its slice of the bytes
+abbrev pub text_in : List ℕ → Token → List ℕ
+text_in bytes t = slice_range bytes t.from t.to
+
+-- a token of a file without its place
 abbrev pub lexeme_in : List ℕ → Token → Lexeme
-lexeme_in bytes t = record { kind = t.kind; text = slice_range bytes t.from t.to }
+lexeme_in bytes t = record { kind = t.kind; text = text_in bytes t }
+
+-- the tokens without their places
+abbrev pub lexemes_in : List ℕ → List Token → List Lexeme
+lexemes_in bytes tokens = map (lexeme_in bytes) tokens
+
+-- the token lies within so many bytes
+pub record IsWithin (len : ℕ) (t : Token) : Type 0 where
+  pub rises : t.from ≤ t.to
+  pub ends : t.to ≤ len
 
 -- the spans are not empty, and rise from one place to another
 abbrev pub Rises : ℕ → ℕ → List Token → Type 0
@@ -53,4 +66,8 @@ runs_by_line (t ∷ ts) = onto_run t (runs_by_line ts)
 -- a run of tokens without their places; its line is that of the first
 abbrev pub line_in : List ℕ → List Token → List TokenLine
 line_in bytes [] = []
-line_in bytes (t ∷ ts) = record { number = t.line; lexemes = map (lexeme_in bytes) (t ∷ ts) } ∷ []
+line_in bytes (t ∷ ts) = record { number = t.line; lexemes = lexemes_in bytes (t ∷ ts) } ∷ []
+
+-- the lines to which tokens belong
+abbrev pub lines_in : List ℕ → List Token → List TokenLine
+lines_in bytes tokens = flat_map (line_in bytes) (runs_by_line tokens)

@@ -42,6 +42,7 @@ kept_segments Comment kept = []
 kept_segments (HeaderLine h) kept = header_segments h kept
 kept_segments Assignment kept = segments Named kept
 
+-- the segments of a line
 abbrev pub line_segments : List ℕ → List Segment
 line_segments line = kept_segments (line_kind line) (kept_part line)
 

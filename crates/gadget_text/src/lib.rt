@@ -8,11 +8,15 @@ mod header;
 mod laws;
 mod line;
 mod line_kind;
+mod line_tokens;
+mod name;
 mod token;
 mod words;
 
 pub use file::tokens;
-pub use laws::{lines_law, segments_law, slices_law, words_law};
+pub use laws::{lines_law, name_law, segments_law, slices_law, spans_law, words_law};
+pub use line_tokens::{LineTokens, first_line};
+pub use name::{is_name, is_number, is_stem};
 pub use token::{Header, TextError, Token, TokenKind};
 
 #[cfg(test)]

@@ -1,7 +1,8 @@
 -- Members of lists, and facts of each pair of places in a list, for `∷`, `++` and `map`.
-use Rattle.std.proofs.Common.{◌≡◌, ℕ, zero, suc, ◌<◌, ◌⊎◌, List, [], ◌∷◌, ◌++◌, map, length, refl, ap, ◌∙◌, inl, inr, arith, Contains, get_or}
+use Rattle.std.proofs.Common.{◌≡◌, ℕ, zero, suc, ◌<◌, ◌+◌, ◌⊎◌, List, [], ◌∷◌, ◌++◌, map, length, refl, ap, ◌∙◌, subst, inl, inr, arith, Contains, get_or, length-append}
 use Rattle.std.specs.List.{All, AllPairs}
 use Rattle.std.proofs.Math.ListN.{length-map, get_or-map}
+use Rattle.std.proofs.lemmas.List.{get_or_append_left, get_or-append-add}
 use Rattle.std.proofs.lemmas.List.Elements.{All-append, All-map, Contains-get_or}
 use Rattle.std.proofs.lemmas.List.Kept.{AllPairs-cons}
 
@@ -55,3 +56,16 @@ pub AllPairs-weaker : {X : Type 0} (R S : X → X → Type 0) (xs : List X) → 
     AllPairs R xs → AllPairs S xs
 AllPairs-weaker R S xs h a i j d l m =
     h (get_or xs i d) (get_or xs j d) (Contains-get_or xs i d (omega arith)) (Contains-get_or xs j d m) (a i j d l m)
+
+-- a fact of each pair of places in two lists, in each of them
+pub AllPairs-append_left : {X : Type 0} (R : X → X → Type 0) (xs ys : List X) → AllPairs R (xs ++ ys) → AllPairs R xs
+AllPairs-append_left R xs ys a i j d l m =
+    let n = length-append xs ys in
+    subst (λ x. R x (get_or xs j d)) (get_or_append_left xs ys d i (omega arith))
+    (subst (R (get_or (xs ++ ys) i d)) (get_or_append_left xs ys d j m) (a i j d l (omega arith)))
+
+pub AllPairs-append_right : {X : Type 0} (R : X → X → Type 0) (xs ys : List X) → AllPairs R (xs ++ ys) → AllPairs R ys
+AllPairs-append_right R xs ys a i j d l m =
+    let n = length-append xs ys in
+    subst (λ x. R x (get_or ys j d)) (get_or-append-add xs ys i d)
+    (subst (R (get_or (xs ++ ys) (length xs + i) d)) (get_or-append-add xs ys j d) (a (length xs + i) (length xs + j) d (omega arith) (omega arith)))

@@ -1,8 +1,11 @@
-use Rattle.std.proofs.Common.{sym, ap, ◌∙◌}
+use Rattle.std.proofs.Common.{List, ◌∷◌, length, sym, ap, ◌∙◌}
 use Rattle.std.proofs.lemmas.Result.{err_from_is_err_and}
+use Rattle.gadget_text.specs.declared.token.Token.{Token}
+use Rattle.gadget_text.specs.Places.{lexemes_in, text_in}
 use Rattle.gadget_grammar.specs.Machine.{steps_from, start}
-use Rattle.gadget_grammar.specs.Seen.{lexemes_in, text_in, steps_in}
+use Rattle.gadget_grammar.specs.Seen.{steps_in}
 use Rattle.gadget_grammar.proofs.Lines.{too_deep, not_deep, assigned, unnamed, refused, symbols_behind, few_steps}
+use Rattle.gadget_grammar.proofs.Words.{steps_within}
 use Rattle.gadget_grammar.proofs.line.assignment.Goals as goal
 
 pub returns-then-is_too_deep-clause-says : goal.returns-then-is_too_deep-clause-says
@@ -30,3 +33,8 @@ returns-clause-few_steps c =
     let said = assigned (lexemes_in c.args.bytes.now c.args.tokens.now) w (steps_in c.args.bytes.now c.in_ok-steps.steps.items) (sym c.in-Some.ensures.name)
     (ap (steps_from start) (sym (symbols_behind c.args.bytes.now c.args.tokens.now)) ∙ c.in_ok-steps.ensures.steps) in
     few_steps c.args.bytes.now c.args.tokens.now w c.in_ok-steps.steps.items said.0 said.1 said.2
+
+pub returns-clause-steps_within : goal.returns-clause-steps_within
+returns-clause-steps_within c =
+    steps_within (length c.args.bytes.now) c.args.tokens.now c.in-Some.name c.in_ok-steps.steps.items c.requires
+    (c.in-Some.ensures.word ∙ ap (λ (ts : List Token). c.in-Some.name ∷ ts) (sym c.in_ok-steps.ensures.names))

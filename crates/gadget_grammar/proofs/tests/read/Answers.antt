@@ -1,5 +1,5 @@
 use Rattle.std.proofs.Common.{◌∙◌}
-use Rattle.gadget_grammar.proofs.Spans.{tokens_within}
+use Rattle.gadget_text.proofs.Within.{tokens_within}
 use Rattle.gadget_grammar.proofs.tests.read.Goals as goal
 
 pub assignment-requires : goal.assignment-requires

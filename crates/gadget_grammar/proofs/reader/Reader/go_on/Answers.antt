@@ -1,8 +1,9 @@
 use Rattle.std.proofs.Common.{[], ◌∷◌, reverse, ap, ◌∙◌}
 use Rattle.std.proofs.lemmas.List.{reverse-append}
+use Rattle.gadget_text.specs.Places.{text_in}
 use Rattle.gadget_text.specs.declared.token.TokenKind.{TokenKind}
 use Rattle.gadget_grammar.specs.Symbols.{symbol_of_kind}
-use Rattle.gadget_grammar.specs.Seen.{steps_in, text_in}
+use Rattle.gadget_grammar.specs.Seen.{steps_in}
 use Rattle.gadget_grammar.proofs.Advances.{plus_advances, times_advances, closing_advances}
 use Rattle.gadget_grammar.proofs.reader.Reader.go_on.Goals as goal
 

@@ -1,9 +1,9 @@
-//! Stems and names.
+//! What words are: stems, numbers and names.
 
 ghost use Rattle.std.specs.Prelude.{◌≡◌, ◌<◌, ◌≤◌, ◌+◌, ◌==◌, length, drop};
 ghost use Rattle.std.specs.List.{list_all, slice_split, position_or_len};
 ghost use Rattle.std.specs.Char.{is_ascii_digit};
-ghost use Rattle.gadget_grammar.specs.Names.{starts_stem, continues_stem, is_stem, is_number, is_name};
+ghost use Rattle.gadget_text.specs.Names.{starts_stem, continues_stem, is_stem, is_number, is_name};
 
 fn starts_stem(b: u8) -> bool
     ensures { result ≡ starts_stem b }
@@ -34,7 +34,8 @@ fn are_digits(bytes: &[u8]) -> bool
     bytes.iter().all(|b| b.is_ascii_digit())
 }
 
-fn is_number(bytes: &[u8]) -> bool
+/// Whether a word is one digit or more.
+pub fn is_number(bytes: &[u8]) -> bool
     ensures { result ≡ is_number bytes.now }
 {
     !bytes.is_empty() && are_digits(bytes)

@@ -1,8 +1,8 @@
 use Rattle.std.proofs.Common.{◌+◌, ◌==◌, ◌&&◌, Bool, List, ℕ, take, drop, sym, ap, ◌∙◌, arith}
 use Rattle.std.specs.List.{list_all, slice_split}
-use Rattle.gadget_grammar.specs.Names.{is_number, is_stem}
-use Rattle.gadget_grammar.proofs.Dots.{name_is_stem, name_is_parts}
-use Rattle.gadget_grammar.proofs.name.is_name.Goals as goal
+use Rattle.gadget_text.specs.Names.{is_number, is_stem}
+use Rattle.gadget_text.proofs.Dots.{name_is_stem, name_is_parts}
+use Rattle.gadget_text.proofs.name.is_name.Goals as goal
 
 pub returns-then-dot-word : goal.returns-then-dot-word
 returns-then-dot-word c = c.is_stem.ensures ∙ name_is_stem c.args.word.now (sym c.if-dot-word.true ∙ c.dot_place-dot.ensures.place)

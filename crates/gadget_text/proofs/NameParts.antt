@@ -3,7 +3,7 @@ use Rattle.std.proofs.Common.{◌≡◌, ◌↔◌, ◌==◌, ℕ, Bool, true, f
 use Rattle.std.specs.List.{list_all, slice_split, onto_first, join_with_byte}
 use Rattle.std.specs.Char.{is_ascii_digit}
 use Rattle.std.proofs.lemmas.List.Splits.{join_with_byte-slice_split}
-use Rattle.gadget_grammar.specs.Names.{starts_stem, continues_stem, is_stem, is_number, is_name, are_name_parts, IsStemWithNumbers}
+use Rattle.gadget_text.specs.Names.{starts_stem, continues_stem, is_stem, is_number, is_name, are_name_parts, IsStemWithNumbers}
 
 -- both tests pass
 both : (a b : Bool) → a && b ≡ true → (a ≡ true) × (b ≡ true)

@@ -3,9 +3,8 @@ use Rattle.std.proofs.Common.{◌≡◌, ◌≤◌, ℕ, List, [], ◌∷◌, le
 use Rattle.std.specs.Prelude.{All}
 use Rattle.std.proofs.lemmas.List.Elements.{All-nil, All-cons}
 use Rattle.gadget_text.specs.declared.token.Token.{Token}
-use Rattle.gadget_text.specs.Places.{tokens_of, Rises}
+use Rattle.gadget_text.specs.Places.{tokens_of, Rises, IsWithin}
 use Rattle.gadget_text.proofs.Spans.{file_rises}
-use Rattle.gadget_grammar.specs.Seen.{IsWithin}
 
 -- spans that rise end at or below the last place
 rises_to : (from to : ℕ) (ts : List Token) → Rises from to ts → from ≤ to

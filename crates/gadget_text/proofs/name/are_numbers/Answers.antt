@@ -1,8 +1,8 @@
 use Rattle.std.proofs.Common.{rules, tests, ◌==◌}
 use Rattle.std.proofs.lemmas.Iterator.Search.{all_from_yields_List}
 use Rattle.std.proofs.lemmas.Iterator.Splits.{YieldsList-from_slice_split}
-use Rattle.gadget_grammar.specs.Names.{is_number}
-use Rattle.gadget_grammar.proofs.name.are_numbers.Goals as goal
+use Rattle.gadget_text.specs.Names.{is_number}
+use Rattle.gadget_text.proofs.name.are_numbers.Goals as goal
 
 pub returns : goal.returns
 returns c =

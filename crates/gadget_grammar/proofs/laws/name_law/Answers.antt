@@ -1,5 +1,0 @@
-use Rattle.gadget_grammar.proofs.NameParts.{names_by_parts}
-use Rattle.gadget_grammar.proofs.laws.name_law.Goals as goal
-
-pub returns : goal.returns
-returns c = names_by_parts
