@@ -1,0 +1,4 @@
+pub mod Errors
+pub mod Headers
+pub mod Limits
+pub mod Seen
