@@ -1,43 +1,51 @@
--- The numbers of shares in decimal.
-use Rattle.std.proofs.Common.{◌≡◌, ℕ, ◌<◌, ◌≤◌, ◌+◌, ◌-◌, ◌/◌, ◌%◌, ◌++◌, ◌⊎◌, inl, inr, List, [], ◌∷◌, length, get_or, ap, sym, ◌∙◌, arith}
+-- Numbers in decimal, and the names of shares.
+use Rattle.std.proofs.Common.{◌≡◌, ◌<◌, ◌+◌, ◌-◌, ◌*◌, ◌^◌, ℕ, true, IsTrue, List, [], ◌∷◌, ◌++◌, length, ◌∙◌, arith, rules}
 use Rattle.std.specs.Prelude.{decimal}
-use Rattle.std.proofs.lemmas.Fmt.{decimal_digit, decimal_step}
-use Rattle.std.proofs.lemmas.Bool.{cases_lt}
-use Rattle.gadget_tree.proofs.Texts.{one_item, two_items}
+use Rattle.std.specs.List.{list_all, fold}
+use Rattle.std.specs.Char.{is_ascii_digit}
+use Rattle.std.proofs.lemmas.Bool.{and_parts, and_from}
+use Rattle.std.proofs.lemmas.Fmt.{decimal_nonempty, digits_decimal, digits_value-decimal}
+use Rattle.std.proofs.lemmas.List.Folds.{list_all-append}
+use Rattle.std.proofs.lemmas.Str.Parse.{IsNumeralModel, numerals_by_fold}
+use Rattle.gadget_text.specs.Bytes.{is_name_byte}
+use Rattle.gadget_text.specs.Names.{starts_stem, continues_stem, is_stem, is_number}
+use Rattle.gadget_text.proofs.WordBytes.{IsSolid, IsWord, each_passes, all_pass, name_byte_solid, digit_letter, digit_continues}
+use Rattle.gadget_headers.specs.Headers.{number_of}
+use Rattle.gadget_tree.specs.Variables.{share_name}
 
-pub decimal_teen : (d : ℕ) → d < 10 → decimal (10 + d) ≡ 49 ∷ (48 + d) ∷ []
-decimal_teen d l =
-    let q : (10 + d) / 10 ≡ 1 = omega arith in
-    let r : (10 + d) % 10 ≡ d = omega arith in
-    decimal_step (10 + d) (omega arith) (omega arith)
-    ∙ ap (λ k. decimal k ++ ((48 + (10 + d) % 10) ∷ [])) q
-    ∙ ap (λ (ds : List ℕ). ds ++ ((48 + (10 + d) % 10) ∷ [])) (decimal_digit 1 (omega arith))
-    ∙ ap (λ k. 49 ∷ (48 + k) ∷ []) r
+-- the tests for digits and their number read what is printed
+own : IsNumeralModel (λ ds. list_all is_ascii_digit ds ≡ true) number_of
+own = numerals_by_fold _ (search rules) (λ n ds. fold (λ m digit. 10 * m + (digit - 48)) n ds) (search rules)
 
-pub one_digit : (w : List ℕ) → length w ≡ 1 → 49 ≤ get_or w 0 0 → get_or w 0 0 ≤ 57 → w ≡ decimal (get_or w 0 0 - 48)
-one_digit w l low high =
-    let e : 48 + (get_or w 0 0 - 48) ≡ get_or w 0 0 = omega arith in
-    one_item w 0 l ∙ sym (decimal_digit (get_or w 0 0 - 48) (omega arith) ∙ ap (λ k. k ∷ []) e)
+decimal_digits : (n : ℕ) → n < 2 ^ 64 → list_all is_ascii_digit (decimal n) ≡ true
+decimal_digits n h = digits_decimal own n h
 
-pub two_digits : (w : List ℕ) → length w ≡ 2 → get_or w 0 0 ≡ 49 → 48 ≤ get_or w 1 0 → get_or w 1 0 ≤ 54 → w ≡ decimal (10 + (get_or w 1 0 - 48))
-two_digits w l one low high =
-    let e : 48 + (get_or w 1 0 - 48) ≡ get_or w 1 0 = omega arith in
-    two_items w 0 l ∙ ap (λ k. k ∷ get_or w 1 0 ∷ []) one ∙ sym (decimal_teen (get_or w 1 0 - 48) (omega arith) ∙ ap (λ k. 49 ∷ k ∷ []) e)
+-- the digits of a number are those of this number
+pub number_of-decimal : (n : ℕ) → n < 2 ^ 64 → number_of (decimal n) ≡ n
+number_of-decimal n h = digits_value-decimal own n h
 
--- how a number from 1 to 16 is written
-pub small_decimal : (w : List ℕ) (n : ℕ) → 1 ≤ n → n ≤ 16 → w ≡ decimal n →
-    ((length w ≡ 1) × (49 ≤ get_or w 0 0) × (get_or w 0 0 ≤ 57)) ⊎ ((length w ≡ 2) × (get_or w 0 0 ≡ 49) × (48 ≤ get_or w 1 0) × (get_or w 1 0 ≤ 54))
-small_decimal w n some few e = elim (cases_lt n 10) [
-  | inl l ↦
-      let f = e ∙ decimal_digit n l in
-      let g = ap (λ v. length v) f in
-      let h = ap (λ v. get_or v 0 0) f in
-      inl (omega arith, omega arith, omega arith)
-  | inr l ↦
-      let m : 10 + (n - 10) ≡ n = omega arith in
-      let f = e ∙ ap decimal (sym m) ∙ decimal_teen (n - 10) (omega arith) in
-      let g = ap (λ v. length v) f in
-      let h = ap (λ v. get_or v 0 0) f in
-      let k = ap (λ v. get_or v 1 0) f in
-      inr (omega arith, omega arith, omega arith, omega arith)
-]
+some_digits : (w : List ℕ) → 0 < length w → list_all is_ascii_digit w ≡ true → is_number w ≡ true
+some_digits [] l e = absurd (omega arith)
+some_digits (b ∷ bs) l e = e
+
+-- the digits of a number are a number
+pub is_number-decimal : (n : ℕ) → n < 2 ^ 64 → is_number (decimal n) ≡ true
+is_number-decimal n h = some_digits (decimal n) (decimal_nonempty n h) (decimal_digits n h)
+
+-- the digits of a number are a word
+pub IsWord-decimal : (n : ℕ) → n < 2 ^ 64 → IsWord (decimal n)
+IsWord-decimal n h = record {
+  some = decimal_nonempty n h;
+  solid = each_passes is_name_byte IsSolid name_byte_solid (decimal n) (all_pass is_ascii_digit is_name_byte digit_letter (decimal n) (decimal_digits n h));
+}
+
+stem_with : (stem digits : List ℕ) → is_stem stem ≡ true → list_all is_ascii_digit digits ≡ true → is_stem (stem ++ digits) ≡ true
+stem_with [] digits e f = absurd cc
+stem_with (b ∷ bs) digits e f =
+    let h = and_parts (starts_stem b) (list_all continues_stem bs) e in
+    and_from (starts_stem b) (list_all continues_stem (bs ++ digits)) h.0
+    (list_all-append continues_stem bs digits ∙ and_from (list_all continues_stem bs) (list_all continues_stem digits) h.1 (all_pass is_ascii_digit continues_stem digit_continues digits f))
+
+-- the name of a share is a stem
+pub is_stem-share_name : (stem : List ℕ) (k : ℕ) → k < 2 ^ 64 → IsTrue (is_stem stem) → IsTrue (is_stem (share_name stem k))
+is_stem-share_name stem k h s = stem_with stem (decimal k) s (decimal_digits k h)

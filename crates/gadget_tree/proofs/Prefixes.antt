@@ -1,73 +1,92 @@
--- The variables that have been read.
-use Rattle.std.proofs.Common.{◌≡◌, ◌≢◌, ℕ, ◌<◌, ◌≤◌, ◌++◌, ◌⊎◌, inl, inr, List, [], ◌∷◌, length, get_or, map, refl, sym, subst, ◌∙◌, arith}
+-- What is known of the variables so far, line after line.
+use Rattle.std.proofs.Common.{◌≡◌, ◌≢◌, ◌<◌, ◌≤◌, ◌+◌, ◌-◌, ℕ, true, false, IsTrue, List, [], ◌∷◌, ◌++◌, length, Ok, sym, ap, ◌∙◌, subst, inl, inr, arith, Contains, append_assoc}
 use Rattle.std.specs.Prelude.{All}
-use Rattle.std.proofs.lemmas.List.{map-append, length-map, length_push, get_or_default}
-use Rattle.std.proofs.lemmas.List.Elements.{All-append}
-use Rattle.std.proofs.lemmas.List.Quantifiers.{all_pairs_push}
-use Rattle.gadget_model.specs.Circuit.{Node, share, random, copy, sum_of, product_of, Variable, NamesEarlier}
-use Rattle.gadget_tree.specs.Gadgets.{IsNumberedNode}
-use Rattle.gadget_tree.specs.FlatForm.{names_of, AreDistinct, share_names, share_variables, random_variables, flat_gadget, WritesNode, IsOperationLine}
-use Rattle.gadget_tree.proofs.Lists.{each_push}
-use Rattle.gadget_tree.proofs.RandomVariables.{names_of-header_variables, length-header_variables-le, nodes-random_variables, IsRandomOf}
-use Rattle.gadget_tree.proofs.ShareVariables.{nodes-share_variables, IsShareOf}
+use Rattle.std.specs.List.{list_any, list_all}
+use Rattle.std.proofs.lemmas.Bool.{or_parts}
+use Rattle.std.proofs.lemmas.List.{length-map}
+use Rattle.std.proofs.lemmas.List.Elements.{All-append, All-nil, All-cons, All-head, All-tail}
+use Rattle.list_laws.proofs.Members.{Contains-cons_cases, AllPairs-append}
+use Rattle.list_laws.proofs.Once.{Contains-nil}
+use Rattle.gadget_model.specs.Circuit.{Node, Variable, NamesEarlier}
+use Rattle.gadget_text.specs.Names.{is_name}
+use Rattle.gadget_text.specs.Tokens.{TokenLine}
+use Rattle.gadget_grammar.specs.Grammar.{Tree}
+use Rattle.gadget_tree.specs.Variables.{names_of, is_among, place_of, AreDistinct}
+use Rattle.gadget_tree.specs.Operations.{leaves, line_parts, line_names, line_nodes, made_variables}
+use Rattle.gadget_tree.specs.Gadgets.{IsOperationNode, IsOperation}
+use Rattle.gadget_tree.specs.File.{LinesSay}
+use Rattle.gadget_tree.proofs.Names.{contains_among, length-names_of}
+use Rattle.gadget_tree.proofs.InnerNames.{names_apart, all_are_names}
+use Rattle.gadget_tree.proofs.Numbered.{AllFrom-append}
+use Rattle.gadget_tree.proofs.Nodes.{AreInOrder, line_nodes_are, line_in_order}
+use Rattle.gadget_tree.proofs.HeaderVariables.{nodes_of}
+use Rattle.gadget_tree.proofs.MadeLines.{IsLine, first_line_read, names_behind, length_behind}
 
-abbrev pub nodes_of : List Variable → List Node
-nodes_of vs = map (λ v. v.node) vs
-
--- a node that may stand at place k
-abbrev pub IsGood : ℕ → List (List ℕ) → ℕ → ℕ → Node → Type 0
-IsGood n inputs randoms k node = NamesEarlier randoms k node × IsNumberedNode (flat_gadget n inputs randoms [] [] []) node
-
-pub record IsPrefix (n : ℕ) (inputs : List (List ℕ)) (randoms : ℕ) (vs : List Variable) : Type 0 where
+-- The variables so far, behind those of the headers, with so many randoms: at most 511, with names of their own, in order, and
+-- operations under names.
+pub record IsPrefix (randoms : ℕ) (start vs : List Variable) : Type 0 where
   pub few : length vs ≤ 511
   pub distinct : AreDistinct (names_of vs)
-  pub each : (k : ℕ) (d : Node) → k < length (nodes_of vs) → IsGood n inputs randoms k (get_or (nodes_of vs) k d)
+  pub in_order : AreInOrder randoms 0 (nodes_of vs)
+  pub operations : (operations : List Variable) × (vs ≡ start ++ operations) × All IsOperation operations
 
-good_share : (n : ℕ) (inputs : List (List ℕ)) (randoms k : ℕ) (node : Node) → IsShareOf (length inputs) n node → IsGood n inputs randoms k node
-good_share n inputs randoms k node h = subst (IsGood n inputs randoms k) (sym h.4) (tt, (h.0, h.1, h.2, h.3, refl))
+-- variables that a line makes are operations under names, where its names and nodes are
+made_operations : (line : ℕ) (names : List (List ℕ)) (vs : List Node) → All (λ w. IsTrue (is_name w)) names → All IsOperationNode vs → All IsOperation (made_variables line names vs)
+made_operations line [] vs h k = All-nil IsOperation
+made_operations line (name ∷ names) [] h k = All-nil IsOperation
+made_operations line (name ∷ names) (v ∷ vs) h k =
+    All-cons IsOperation (record { name = name; node = v; line = line }) (made_variables line names vs)
+    (record { name = All-head (λ w. IsTrue (is_name w)) name names h; node = All-head IsOperationNode v vs k })
+    (made_operations line names vs (All-tail (λ w. IsTrue (is_name w)) name names h) (All-tail IsOperationNode v vs k))
 
-good_random : (n : ℕ) (inputs : List (List ℕ)) (randoms k : ℕ) (node : Node) → IsRandomOf randoms node → IsGood n inputs randoms k node
-good_random n inputs randoms k node h = subst (IsGood n inputs randoms k) (sym h.2) (h.1, tt)
+-- names of which none stands are apart from those that stand
+apart : (names more : List (List ℕ)) → list_any (is_among names) more ≡ false → (a b : List ℕ) → Contains names a → Contains more b → a ≢ b
+apart names [] e a b h k = absurd (Contains-nil b k)
+apart names (name ∷ more) e a b h k =
+    let p = or_parts (is_among names name) (list_any (is_among names) more) e in
+    elim (Contains-cons_cases name more b k) [
+      | inl same ↦ λ eq. let found = contains_among names name (subst (Contains names) (eq ∙ sym same) h) in let none = p.0 in absurd cc
+      | inr l ↦ apart names more p.1 a b h l
+    ]
 
-good_written : (n : ℕ) (inputs : List (List ℕ)) (randoms : ℕ) (vs : List Variable) (words : List (List ℕ)) (x : List ℕ) (k : ℕ) (node : Node) → length vs ≡ k → WritesNode vs words x node → IsGood n inputs randoms k node
-good_written n inputs randoms vs words x k (share j) e h = absurd h
-good_written n inputs randoms vs words x k (random j) e h = absurd h
-good_written n inputs randoms vs words x k (copy a) e h = let l = h.0 in (omega arith, tt)
-good_written n inputs randoms vs words x k (sum_of a b) e h = let l = h.0 in let m = h.1 in ((omega arith, omega arith), tt)
-good_written n inputs randoms vs words x k (product_of a b) e h = let l = h.0 in let m = h.1 in ((omega arith, omega arith), tt)
+-- the nodes of a line stand in order behind the earlier ones
+line_order : (randoms : ℕ) (earlier : List Variable) (tree : Tree) → list_all (is_among (names_of earlier)) (leaves tree) ≡ true →
+    AreInOrder randoms (0 + length (nodes_of earlier)) (line_nodes (place_of (names_of earlier)) (length earlier) tree)
+line_order randoms earlier tree known =
+    let names = names_of earlier in
+    let new = line_nodes (place_of names) (length earlier) tree in
+    let m = length-map earlier (λ (v : Variable). v.node) in
+    let e : length earlier ≡ 0 + length (nodes_of earlier) = omega arith in
+    subst (λ k. AreInOrder randoms k new) e (subst (λ k. AreInOrder randoms k (line_nodes (place_of names) k tree)) (length-names_of earlier) (line_in_order randoms names tree known))
 
-pub distinct_more : (number : ℕ) (vs : List Variable) (line : List ℕ) (v : Variable) → AreDistinct (names_of vs) → IsOperationLine number vs line v → AreDistinct (names_of (vs ++ v ∷ []))
-distinct_more number vs line v distinct h =
-    subst AreDistinct (sym (map-append (λ (v : Variable). v.name) vs (v ∷ [])))
-    (all_pairs_push (λ a b. a ≢ b) (names_of vs) v.name distinct (λ k d l e. h.fresh (k, l, get_or_default (names_of vs) k v.name d l ∙ e)))
-
-pub prefix_start : (n : ℕ) (inputs randoms : List (List ℕ)) → n ≤ 16 → length inputs ≤ 4 → length randoms ≤ 128 → AreDistinct (share_names n inputs ++ randoms)
-    → IsPrefix n inputs (length randoms) (share_variables n 0 inputs ++ random_variables 0 randoms)
-prefix_start n inputs randoms few few_inputs few_randoms distinct =
-    let shares = share_variables n 0 inputs in
-    let others = random_variables 0 randoms in
-    let l = length-header_variables-le n inputs randoms few in
-    let P : Node → Type 0 = λ node. IsShareOf (length inputs) n node ⊎ IsRandomOf (length randoms) node in
-    let first : All P (nodes_of shares) = λ k d l. inl (nodes-share_variables n 0 (length inputs) inputs (omega arith) k d l) in
-    let last : All P (nodes_of others) = λ k d l. inr (nodes-random_variables 0 (length randoms) randoms (omega arith) k d l) in
-    let all : All P (nodes_of (shares ++ others)) = subst (All P) (sym (map-append (λ (v : Variable). v.node) shares others)) (All-append P (nodes_of shares) (nodes_of others) first last) in
+-- one line more
+prefix_more : (randoms : ℕ) (start earlier : List Variable) (line : TokenLine) (name : List ℕ) (tree : Tree) (now : List Variable) → IsLine earlier line name tree now → IsPrefix randoms start earlier → IsPrefix randoms start now
+prefix_more randoms start earlier line name tree now l p =
+    let names = names_of earlier in
+    let new = line_nodes (place_of names) (length earlier) tree in
+    let made = made_variables line.number (line_names name tree) new in
+    let behind = names_behind earlier line name tree now l in
+    let count = length_behind earlier line name tree now l in
+    let few = l.few in
+    let small : length (line_parts tree) - 1 < 1000 = omega arith in
+    let assigns = l.assigns in
+    let are_names = all_are_names name (length (line_parts tree) - 1) small assigns.names in
     record {
       few = omega arith;
-      distinct = subst AreDistinct (sym (names_of-header_variables n inputs randoms)) distinct;
-      each = λ k d l. elim (all k d l) [
-        | inl h ↦ good_share n inputs (length randoms) k _ h
-        | inr h ↦ good_random n inputs (length randoms) k _ h
-      ];
+      distinct = subst AreDistinct (sym behind.0)
+          (AllPairs-append (λ a b. a ≢ b) names (line_names name tree) p.distinct (names_apart name (length (line_parts tree) - 1) small) (apart names (line_names name tree) l.new));
+      in_order = subst (AreInOrder randoms 0) (sym behind.1) (AllFrom-append (NamesEarlier randoms) 0 (nodes_of earlier) new p.in_order (line_order randoms earlier tree l.known));
+      operations = (
+        p.operations.0 ++ made,
+        l.makes ∙ ap (λ (z : List Variable). z ++ made) p.operations.1 ∙ append_assoc start p.operations.0 made,
+        All-append IsOperation p.operations.0 made p.operations.2
+            (made_operations line.number (line_names name tree) new are_names (line_nodes_are (place_of names) (length earlier) tree)),
+      );
     }
 
-pub prefix_more : (n : ℕ) (inputs : List (List ℕ)) (randoms number : ℕ) (vs : List Variable) (line : List ℕ) (v : Variable) → IsPrefix n inputs randoms vs → IsOperationLine number vs line v → IsPrefix n inputs randoms (vs ++ v ∷ [])
-prefix_more n inputs randoms number vs line v p h =
-    let l = length_push vs v in
-    let few = h.few in
-    let e = length-map vs (λ (v : Variable). v.node) in
-    record {
-      few = omega arith;
-      distinct = distinct_more number vs line v p.distinct h;
-      each = subst (λ (nodes : List Node). (k : ℕ) (d : Node) → k < length nodes → IsGood n inputs randoms k (get_or nodes k d)) (sym (map-append (λ (v : Variable). v.node) vs (v ∷ [])))
-          (each_push (IsGood n inputs randoms) (nodes_of vs) v.node p.each (good_written n inputs randoms vs _ v.name (length (nodes_of vs)) v.node (sym e) h.writes));
-    }
+-- all lines that are read
+pub lines_prefix : (randoms : ℕ) (start : List Variable) (lines : List TokenLine) (earlier vs : List Variable) → LinesSay earlier lines (Ok vs) → IsPrefix randoms start earlier → IsPrefix randoms start vs
+lines_prefix randoms start [] earlier vs h p = let e : vs ≡ earlier = cc in subst (IsPrefix randoms start) (sym e) p
+lines_prefix randoms start (line ∷ lines) earlier vs h p =
+    let f = first_line_read earlier line lines vs h in
+    lines_prefix randoms start lines f.0 vs f.4 (prefix_more randoms start earlier line f.1 f.2 f.0 f.3 p)

@@ -1,6 +1,14 @@
 pub mod Seen
+pub mod Variables
+pub mod Operations
+pub mod Made
+pub mod Numerals
+pub mod File
 pub mod Gadgets
 pub mod Inside
-pub mod FlatForm
-pub mod Reading
-pub mod Refusals
+pub mod Values
+pub mod Wires
+pub mod Canonical
+pub mod Named
+pub mod Missing
+pub mod Printed

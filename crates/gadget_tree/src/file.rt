@@ -1,120 +1,93 @@
 //! Reading a gadget file.
 
-ghost use Rattle.std.specs.Prelude.{All, ◌≡◌, ℕ, List, ◌+◌, ◌≤◌, [], map, drop, length, IfOk, IfErr, MatchResult, Result, Ok, Err};
-ghost use Rattle.std.specs.List.{AllZip};
-ghost use Rattle.gadget_model.specs.Circuit.{Circuit};
-ghost use Rattle.gadget_tree.specs.FlatForm.{AreOutputShares, IsNamed, LinesSay, FileSays};
-ghost use Rattle.gadget_tree.specs.Gadgets.{HasShareBelow};
-ghost use Rattle.gadget_tree.specs.Reading.{Reads, GoesOn, StopsAt};
-ghost use Rattle.gadget_tree.specs.Refusals.{Refuses};
+ghost use Rattle.std.specs.Prelude.{◌≡◌, ◌≢◌, ◌≤◌, ℕ, List, All, length, map, option_map, Ok, Err, IfOk, IfErr, IfSome};
+ghost use Rattle.gadget_text.specs.Lines.{lines_of, first_not_text};
+ghost use Rattle.gadget_text.specs.Places.{IsWithin, text_in, lines_in};
+ghost use Rattle.gadget_headers.specs.declared.file_error.FileError.TheVariants.{OutOfMemory};
+ghost use Rattle.gadget_headers.specs.Limits.{KeepsLimits, stems_of};
+ghost use Rattle.gadget_headers.specs.Seen.{preamble_in, listed_in, AreHeadersWithin};
+ghost use Rattle.gadget_tree.specs.File.{FileSays, text_of, flat_gadget};
+ghost use Rattle.gadget_tree.specs.Gadgets.{IsGadget, HasShareBelow};
 ghost use Rattle.gadget_tree.specs.Seen.{variables_of};
 
-use crate::file_error::FileError;
-use crate::gadget::Gadget;
-use crate::header::read_header;
-use crate::lines::lines;
+use crate::gadget::{Gadget, Parts};
+use crate::line::with_lines;
 use crate::name::Name;
-use crate::operation::{number, operation};
-use crate::randoms::header_vars;
-use crate::shares::extend_share_names;
-use crate::var::Var;
+use crate::name_list::extend_names;
+use crate::outputs::output_shares;
+use crate::start::named_variables;
+use crate::variables::Variables;
+use gadget_headers::{FileError, Headers, Stems, read_headers};
+use gadget_text::{Token, tokens};
 use std::alloc::{AllocError, Global};
 
-// The lines behind the headers.
-fn operation_lines<'a, 'b>(lines: &'a [&'b [u8]], header_lines: usize) -> &'a [&'b [u8]]
-    requires { header_lines ≤ length lines.now }
-    ensures { result.now ≡ drop header_lines lines.now }
+// The tokens of a file.
+fn file_tokens(alloc: Global, bytes: &[u8]) -> Result<Vec<Token>, FileError>
+    requires { length bytes.now ≤ 1048576 }
+    ensures ok { IfOk result (λ v. text_of bytes.now (first_not_text 1 (lines_of bytes.now)) ≡ Ok (lines_in bytes.now v.items)) }
+    ensures within { IfOk result (λ v. All (IsWithin (length bytes.now)) v.items) }
+    ensures refused { IfErr result (λ e. e ≢ OutOfMemory → text_of bytes.now (first_not_text 1 (lines_of bytes.now)) ≡ Err e) }
 {
-    &lines[header_lines..]
+    Ok(tokens(alloc, bytes)?)
 }
 
-// The variables so far, and behind them those that the operation lines assign, the first of which has this number.
-fn read_operations(
-    alloc: Global,
-    lines: &[&[u8]],
-    first: u32,
-    mut vars: Vec<Var>,
-) -> Result<Vec<Var>, FileError>
-    requires few { length vars.items ≤ 511 }
-    requires lines { length lines.now ≤ 1048577 }
-    requires first { first ≤ 5 }
-    ensures said { MatchResult result
-        (λ v. (length v.items ≤ 511) × GoesOn first (variables_of vars.items) (map (λ w. w.now) lines.now) (first + length lines.now) (variables_of v.items) [])
-        (Refuses (λ line. StopsAt line first (variables_of vars.items) (map (λ w. w.now) lines.now))) }
-    ensures shares { IfOk result (λ v. (inputs shares : ℕ) → All (HasShareBelow inputs shares) vars.items → All (HasShareBelow inputs shares) v.items) }
-{
-    for (i, line) in lines.iter().enumerate() {
-        let number = first + i as u32;
-        let Some(var) = operation(alloc, &vars, line, number)? else {
-            return Err(FileError::Syntax(number));
-        };
-        vars.push(var)?;
-    }
-    Ok(vars)
-}
-
-// The numbers of the variables with these names.
-fn numbers(alloc: Global, vars: &[Var], names: &[Name]) -> Result<Option<Vec<u16>>, AllocError>
-    requires { length vars.now ≤ 511 }
-    ensures { IfOk result (λ o. Reads (λ v. v.items) (AllZip (IsNamed (variables_of vars.now)) names.now) o) }
-{
-    let mut numbers = Vec::new(alloc);
-    for name in names {
-        let Some(number) = number(vars, name.bytes()) else {
-            return Ok(None);
-        };
-        numbers.push(number)?;
-    }
-    Ok(Some(numbers))
-}
-
-// The variables of the output shares, where each is assigned.
-fn output_shares(
-    alloc: Global,
-    vars: &[Var],
-    shares: u8,
-    outputs: &[Name],
-) -> Result<Option<Vec<u16>>, AllocError>
-    requires { length vars.now ≤ 511 }
-    ensures { IfOk result (λ o. Reads (λ v. v.items) (AreOutputShares shares outputs.now (variables_of vars.now)) o) }
+// The words as names.
+fn names(alloc: Global, bytes: &[u8], words: &[Token]) -> Result<Vec<Name>, AllocError>
+    requires { All (IsWithin (length bytes.now)) words.now }
+    ensures { IfOk result (λ v. v.items ≡ map (text_in bytes.now) words.now) }
 {
     let mut names = Vec::new(alloc);
-    extend_share_names(alloc, &mut names, shares, outputs)?;
-    numbers(alloc, vars, &names)
+    extend_names(alloc, bytes, &mut names, words)?;
+    Ok(names)
 }
 
-// The gadget that lines say.
-fn read_lines(alloc: Global, lines: &[&[u8]]) -> Result<Gadget, FileError>
-    requires { length lines.now ≤ 1048577 }
-    ensures { MatchResult result
-        (λ g. LinesSay (map (λ w. w.now) lines.now) (Ok g))
-        (Refuses (λ line. LinesSay (map (λ w. w.now) lines.now) (Err line))) }
+// How many randoms a header lists; none where it is missing.
+fn random_count(randoms: Option<Stems<'_>>) -> u16
+    requires { IfSome randoms (λ r. length r.words.now ≤ 128) }
+    ensures { (bytes : List ℕ) → result ≡ length (stems_of (option_map (listed_in bytes) randoms.entry)) }
 {
-    let header = read_header(alloc, lines)?;
-    let start = header_vars(alloc, header.shares, &header.inputs, &header.randoms)?;
-    let first = header.lines as u32 + 1;
-    let vars = read_operations(alloc, operation_lines(lines, header.lines), first, start)?;
-    let Some(output_shares) = output_shares(alloc, &vars, header.shares, &header.outputs)? else {
-        return Err(FileError::Syntax(lines.len() as u32 + 1));
-    };
-    Ok(Gadget::new(header, output_shares, vars))
+    match randoms {
+        None => 0,
+        Some(randoms) => randoms.words.len() as u16,
+    }
 }
 
-/// The gadget that a file of the flat form says: `#SHARES n`, `#IN a b ..`, `#RANDOMS r s ..` where it has randoms,
-/// `#OUT d ..` and then a line for each copy `x = a` and each sum `x = a + b`. Otherwise the first line that the form does not allow at its place; where only a line
-/// or an output share is missing, that is the number of lines and 1. A file has at most a mebibyte. Time is at most the
-/// number of lines times that of variables.
+// The gadget that the headers, the variables and the numbers of the output shares make.
+fn flat_gadget(
+    alloc: Global,
+    bytes: &[u8],
+    headers: &Headers<'_>,
+    output_shares: Vec<u16>,
+    variables: Variables,
+) -> Result<Gadget, AllocError>
+    requires within { AreHeadersWithin (length bytes.now) headers.now }
+    requires numbers { output_shares.items ≡ (flat_gadget (preamble_in bytes.now headers.now) (variables_of variables)).output_shares }
+    requires gadget { IsGadget (flat_gadget (preamble_in bytes.now headers.now) (variables_of variables)) }
+    requires shares { All (HasShareBelow (length headers.now.inputs.words.now) headers.now.shares) variables }
+    ensures { IfOk result (λ g. g ≡ flat_gadget (preamble_in bytes.now headers.now) (variables_of variables)) }
+{
+    Ok(Gadget::new(Parts {
+        shares: headers.shares,
+        inputs: names(alloc, bytes, headers.inputs.words)?,
+        randoms: random_count(headers.randoms),
+        outputs: names(alloc, bytes, headers.outputs.words)?,
+        output_shares,
+        vars: variables.into_vars(),
+    }))
+}
+
+/// The gadget that a file says, or its first offence. A file has at most a mebibyte. Time is linear in the file's length and that of
+/// the gadget's names, times the logarithm of how many variables there are; the names of the headers, at most 224, are held each
+/// against each.
 pub fn read_gadget(alloc: Global, bytes: &[u8]) -> Result<Gadget, FileError>
-    requires { length bytes.now ≤ 1048576 }
+    requires short { length bytes.now ≤ 1048576 }
     ensures ok { IfOk result (λ g. FileSays bytes.now (Ok g)) }
-    ensures syntax { IfErr result (Refuses (λ line. FileSays bytes.now (Err line))) }
+    ensures refused { IfErr result (λ e. e ≢ OutOfMemory → FileSays bytes.now (Err e)) }
 {
-    let lines = lines(alloc, bytes)?;
-    read_lines(alloc, &lines)
+    let tokens = file_tokens(alloc, bytes)?;
+    let headers = read_headers(bytes, &tokens)?;
+    let start = named_variables(alloc, bytes, &headers)?;
+    let variables = with_lines(alloc, bytes, headers.rest, start)?;
+    let shares = output_shares(alloc, bytes, &headers, &variables)?;
+    Ok(flat_gadget(alloc, bytes, &headers, shares, variables)?)
 }
-
-/// A file says one thing at most, so that a gadget is read exactly where the file says it, and a line is refused exactly where
-/// it is the first that is not allowed.
-pub fn one_reading_law()
-    ensures { (bytes : List ℕ) (r s : Result Circuit ℕ) → FileSays bytes r → FileSays bytes s → r ≡ s }
-{}

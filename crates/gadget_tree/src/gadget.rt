@@ -4,9 +4,8 @@ ghost use Rattle.std.specs.Prelude.{◌≤◌, ◌≡◌, ℕ, ◌+◌, ◌*◌,
 ghost use Rattle.gadget_model.specs.Circuit.{Circuit};
 ghost use Rattle.gadget_tree.specs.Seen.{variables_of};
 ghost use Rattle.gadget_tree.specs.Gadgets.{IsGadget, HasShareBelow, HasShareOf, IsOutOf};
-ghost use Rattle.gadget_tree.specs.FlatForm.{flat_gadget};
+ghost use Rattle.gadget_tree.specs.Inside.{circuit_of_parts};
 
-use crate::header::Header;
 use crate::name::Name;
 use crate::var::Var;
 use std::marker::Model;
@@ -36,24 +35,36 @@ impl Model for Gadget {
     ghost invariant = { λ g. IsGadget (circuit_of g) × All (HasShareOf (circuit_of g)) g.vars.items };
 }
 
+/// The parts of a gadget.
+#[derive(Drop)]
+pub(crate) struct Parts {
+    pub shares: u8,
+    pub inputs: Vec<Name>,
+    pub randoms: u16,
+    pub outputs: Vec<Name>,
+    pub output_shares: Vec<u16>,
+    pub vars: Vec<Var>,
+}
+
 impl Gadget {
-    /// A gadget of the flat form.
-    pub(crate) fn new(header: Header, output_shares: Vec<u16>, vars: Vec<Var>) -> Gadget
-        requires gadget { IsGadget (flat_gadget header.shares header.inputs.items (length header.randoms.items) header.outputs.items output_shares.items (variables_of vars.items)) }
-        requires shares { All (HasShareBelow (length header.inputs.items) header.shares) vars.items }
-        ensures { result ≡ flat_gadget header.shares header.inputs.items (length header.randoms.items) header.outputs.items output_shares.items (variables_of vars.items) }
+    /// A gadget with these parts.
+    pub(crate) fn new(parts: Parts) -> Gadget
+        requires gadget { IsGadget (circuit_of_parts parts) }
+        requires shares { All (HasShareBelow (length parts.inputs.items) parts.shares) parts.vars.items }
+        ensures { result ≡ circuit_of_parts parts }
     {
-        let Header {
+        let Parts {
             shares,
             inputs,
             randoms,
             outputs,
-            ..
-        } = header;
+            output_shares,
+            vars,
+        } = parts;
         Gadget {
             shares,
             inputs,
-            randoms: randoms.len() as u16,
+            randoms,
             outputs,
             output_shares,
             vars,

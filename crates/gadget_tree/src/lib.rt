@@ -1,22 +1,27 @@
-//! Gadgets, and the reader of gadget files.
+//! Gadgets, and their files: a reader that finds the flat gadget or the first offence, and the canonical text.
 #![tactic(auto)]
 
-pub mod file;
-pub mod file_error;
-pub mod gadget;
-mod header;
-mod lines;
-pub mod name;
-mod operation;
-mod randoms;
-mod shares;
-pub mod var;
+mod file;
+mod gadget;
+mod header_vars;
+mod inner_names;
+mod laws;
+mod line;
+mod making;
+mod name;
+mod name_list;
+mod operations;
+mod outputs;
+mod print;
+mod start;
+mod text;
+mod var;
+mod variables;
 
-pub use file::{one_reading_law, read_gadget};
-pub use file_error::FileError;
+pub use file::read_gadget;
 pub use gadget::{Gadget, one_output_law};
+pub use gadget_headers::{FileError, What};
+pub use laws::{canonical_law, reading_law, value_law, wires_law};
 pub use name::Name;
+pub use print::print_gadget;
 pub use var::{Var, VarKind};
-
-#[cfg(test)]
-mod tests;

@@ -1,13 +1,12 @@
 -- What is refused once all that was left of the source was read.
 use Rattle.std.proofs.Common.{◌≡◌, ℕ, ◌≤◌, List, [], ◌++◌, length, length-append, Option, Some, None, Ok, Err, ap, refl, subst, sym, arith}
-use Rattle.std.specs.Prelude.{IfSome}
+use Rattle.std.specs.Prelude.{◌≢◌, IfSome}
 use Rattle.std.specs.Io.KnownBytes.{IsAtEnd}
 use Rattle.mask_bytes.specs.Flow.{LeavesSuffix, LosesAtMost}
 use Rattle.gadget_model.specs.Circuit.{Circuit}
-use Rattle.gadget_tree.specs.FlatForm.{FileSays}
-use Rattle.gadget_tree.specs.Refusals.{Refuses as refuses_line}
-use Rattle.gadget_tree.specs.declared.file_error.FileError.{FileError}
-use Rattle.gadget_tree.specs.declared.file_error.FileError.TheVariants as files
+use Rattle.gadget_tree.specs.File.{FileSays}
+use Rattle.gadget_headers.specs.declared.file_error.FileError.{FileError}
+use Rattle.gadget_headers.specs.declared.file_error.FileError.TheVariants as files
 use Rattle.wire_table.specs.Refusals.{Refuses as refuses_table}
 use Rattle.wire_table.specs.declared.wire_error.WireError.{WireError}
 use Rattle.wire_table.specs.declared.wire_error.WireError.TheVariants as wires
@@ -63,12 +62,25 @@ module _ {S K : Type 0} (words : List (List ℕ)) (run : Run S K) (bytes : List 
   pub Refuses-memory : (status : Status) → status ≡ statuses.OutOfMemory → Refuses words run status
   Refuses-memory status e = subst (Refuses words run) (sym e) (asked, kept, lost)
 
-  file_error : (error : FileError) → refuses_line (λ line. FileSays bytes (Err line)) error → Refuses words run (status_of_file error)
-  file_error (files.Syntax line) refused = (asked, kept, (end, told (λ left. FileSays left (Err line)) refused))
+  -- the file is refused for its first offence
+  offence : (error : FileError) → error ≢ files.OutOfMemory → (error ≢ files.OutOfMemory → FileSays bytes (Err error)) → Refuses words run (statuses.File error)
+  offence error other refused = (asked, kept, (other, end, told (λ left. FileSays left (Err error)) (refused other)))
+
+  file_error : (error : FileError) → (error ≢ files.OutOfMemory → FileSays bytes (Err error)) → Refuses words run (status_of_file error)
+  file_error (files.NotText line) refused = offence (files.NotText line) (λ e. absurd (cc)) refused
+  file_error (files.Syntax line) refused = offence (files.Syntax line) (λ e. absurd (cc)) refused
+  file_error (files.HeaderTwice line) refused = offence (files.HeaderTwice line) (λ e. absurd (cc)) refused
+  file_error (files.HeaderMissing header) refused = offence (files.HeaderMissing header) (λ e. absurd (cc)) refused
+  file_error (files.BadNumber line) refused = offence (files.BadNumber line) (λ e. absurd (cc)) refused
+  file_error (files.BadName line) refused = offence (files.BadName line) (λ e. absurd (cc)) refused
+  file_error (files.NameTwice line) refused = offence (files.NameTwice line) (λ e. absurd (cc)) refused
+  file_error (files.Unknown line) refused = offence (files.Unknown line) (λ e. absurd (cc)) refused
+  file_error (files.OutputMissing output index) refused = offence (files.OutputMissing output index) (λ e. absurd (cc)) refused
+  file_error (files.TooMany things) refused = offence (files.TooMany things) (λ e. absurd (cc)) refused
   file_error files.OutOfMemory refused = (asked, kept, lost)
 
-  -- the file is refused, for its first line that isn't allowed, or memory ran out
-  pub Refuses-file : (error : FileError) (status : Status) → status ≡ status_of_file error → refuses_line (λ line. FileSays bytes (Err line)) error → Refuses words run status
+  -- the file is refused for its first offence, or memory ran out
+  pub Refuses-file : (error : FileError) (status : Status) → status ≡ status_of_file error → (error ≢ files.OutOfMemory → FileSays bytes (Err error)) → Refuses words run status
   Refuses-file error status e refused = subst (Refuses words run) (sym e) (file_error error refused)
 
   unfit : (g : Circuit) (error : WireError) → FileSays bytes (Ok g) → refuses_table g error →

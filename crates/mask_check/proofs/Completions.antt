@@ -5,9 +5,8 @@ use Rattle.mask_bytes.specs.Counts.{Rose}
 use Rattle.mask_bytes.specs.Flow.{IsLonger}
 use Rattle.gadget_model.specs.Circuit.{Circuit}
 use Rattle.gadget_model.specs.Classes.{IsInClass, Fault, too_wide, random_product, degree, IsFirstFault}
-use Rattle.gadget_tree.specs.FlatForm.{FileSays, lines_of}
-use Rattle.gadget_tree.proofs.OneReading.{lines_once}
-use Rattle.gadget_tree.specs.declared.file_error.FileError.TheVariants as errors
+use Rattle.gadget_tree.specs.File.{FileSays}
+use Rattle.gadget_tree.proofs.OneReading.{one_reading}
 use Rattle.wire_table.specs.Refusals.{Refuses as refuses_table}
 use Rattle.wire_table.specs.declared.wire_error.WireError.{WireError}
 use Rattle.wire_table.specs.declared.wire_error.WireError.TheVariants as wires
@@ -22,10 +21,6 @@ ok_err a b r e f = cc
 
 ok_ok : {A B : Type 0} (a b : A) (r : Result A B) → r ≡ Ok a → r ≡ Ok b → a ≡ b
 ok_ok a b r e f = cc
-
-one_reading : (bytes : List ℕ) (r s : Result Circuit ℕ) → FileSays bytes r → FileSays bytes s → r ≡ s
-unfolding FileSays
-one_reading bytes r s h k = lines_once r s (lines_of bytes) h k
 
 -- a gadget in the class has no variable with a fault
 no_fault : (g : Circuit) (v : ℕ) (fault : Fault) → IsInClass g → IsFirstFault g v fault → ⊥
@@ -55,10 +50,9 @@ module _ {S K : Type 0} (words : List (List ℕ)) (run : Run S K) (t : ℕ) (byt
   IsVerdictIfMemoryLasts-from_refusal statuses.Yes h = absurd h
   IsVerdictIfMemoryLasts-from_refusal statuses.No h = absurd h
   IsVerdictIfMemoryLasts-from_refusal (statuses.Usage kind) h = absurd (ok_err t kind (words_ask words) asked h.0)
-  IsVerdictIfMemoryLasts-from_refusal (statuses.File (errors.Syntax line)) h =
-      let P : Option (List ℕ) → Type 0 = λ o. IfSome o (λ bs. (length bs ≤ 1048576) × FileSays bs (Err line)) in
-      absurd (ok_err g line (Ok g) refl (one_reading bytes (Ok g) (Err line) valid ((subst P told h.2.1).1)))
-  IsVerdictIfMemoryLasts-from_refusal (statuses.File errors.OutOfMemory) h = absurd h.2
+  IsVerdictIfMemoryLasts-from_refusal (statuses.File error) h =
+      let P : Option (List ℕ) → Type 0 = λ o. IfSome o (λ bs. (length bs ≤ 1048576) × FileSays bs (Err error)) in
+      absurd (ok_err g error (Ok g) refl (one_reading bytes (Ok g) (Err error) valid ((subst P told h.2.2).1)))
   IsVerdictIfMemoryLasts-from_refusal (statuses.Wires (wires.TooWide var line)) h = absurd (not_unfit (wires.TooWide var line) (λ e. absurd (cc)) h.2)
   IsVerdictIfMemoryLasts-from_refusal (statuses.Wires (wires.RandomProduct var line)) h = absurd (not_unfit (wires.RandomProduct var line) (λ e. absurd (cc)) h.2)
   IsVerdictIfMemoryLasts-from_refusal (statuses.Wires (wires.Degree var line)) h = absurd (not_unfit (wires.Degree var line) (λ e. absurd (cc)) h.2)

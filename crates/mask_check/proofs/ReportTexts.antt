@@ -8,7 +8,7 @@ use Rattle.tuple_model.proofs.Rising.{IsRising-member}
 use Rattle.tuple_model.proofs.Answers.{minimal-from_answer}
 use Rattle.gadget_tree.specs.declared.var.Var.{Var}
 use Rattle.gadget_tree.specs.Seen.{variables_of}
-use Rattle.gadget_tree.specs.FlatForm.{name_at}
+use Rattle.gadget_tree.specs.Variables.{name_at}
 use Rattle.mask_check.specs.Report.{AreVariables}
 
 -- the name of a variable of the model is that of the code's variable with the same number

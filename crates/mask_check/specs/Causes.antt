@@ -1,8 +1,8 @@
 -- The statuses of the errors of the layers below. Want of memory is one status, wherever it came from.
 use Rattle.mask_bytes.specs.declared.error.ReadError.{ReadError}
 use Rattle.mask_bytes.specs.declared.error.ReadError.TheVariants as reads
-use Rattle.gadget_tree.specs.declared.file_error.FileError.{FileError}
-use Rattle.gadget_tree.specs.declared.file_error.FileError.TheVariants as files
+use Rattle.gadget_headers.specs.declared.file_error.FileError.{FileError}
+use Rattle.gadget_headers.specs.declared.file_error.FileError.TheVariants as files
 use Rattle.wire_table.specs.declared.wire_error.WireError.{WireError}
 use Rattle.wire_table.specs.declared.wire_error.WireError.TheVariants as wires
 use Rattle.mask_check.specs.declared.status.Status.{Status}
@@ -14,8 +14,8 @@ status_of_read reads.TooLong = statuses.TooLong
 status_of_read reads.OutOfMemory = statuses.OutOfMemory
 
 abbrev pub status_of_file : FileError → Status
-status_of_file (files.Syntax line) = statuses.File (files.Syntax line)
 status_of_file files.OutOfMemory = statuses.OutOfMemory
+status_of_file error = statuses.File error
 
 abbrev pub status_of_wires : WireError → Status
 status_of_wires (wires.TooWide var line) = statuses.Wires (wires.TooWide var line)

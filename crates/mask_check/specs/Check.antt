@@ -1,5 +1,5 @@
 -- What a check says of a gadget file.
-use Rattle.std.specs.Prelude.{◌≡◌, ◌↔◌, ◌≤◌, ℕ, Bool, List, [], length, Option, IfSome, IsTrue, Ok, Err}
+use Rattle.std.specs.Prelude.{◌≡◌, ◌≢◌, ◌↔◌, ◌≤◌, ℕ, Bool, List, [], length, Option, IfSome, IsTrue, Ok, Err}
 use Rattle.std.specs.Io.KnownBytes.{IsAtEnd, append_known}
 use Rattle.mask_bytes.specs.Flow.{AppendsProperPrefix}
 use Rattle.gadget_model.specs.Circuit.{Circuit}
@@ -7,9 +7,9 @@ use Rattle.gadget_model.specs.Classes.{IsInClass}
 use Rattle.tuple_model.specs.Tuples.{IsTuple, tuples}
 use Rattle.tuple_model.specs.Minimal.{IsAnswer}
 use Rattle.notions.specs.Ni.{Fails}
-use Rattle.gadget_tree.specs.FlatForm.{FileSays}
-use Rattle.gadget_tree.specs.declared.file_error.FileError.{FileError}
-use Rattle.gadget_tree.specs.declared.file_error.FileError.TheVariants as errors
+use Rattle.gadget_tree.specs.File.{FileSays}
+use Rattle.gadget_headers.specs.declared.file_error.FileError.{FileError}
+use Rattle.gadget_headers.specs.declared.file_error.FileError.TheVariants as errors
 use Rattle.wire_table.specs.Refusals.{Refuses as refuses_table}
 use Rattle.wire_table.specs.declared.wire_error.WireError.{WireError}
 use Rattle.wire_table.specs.declared.wire_error.WireError.TheVariants as wires
@@ -49,12 +49,11 @@ abbrev pub BreaksOff : List (List ℕ) → Option (List ℕ) → Option (List �
 BreaksOff words left left_after written written_after =
     (secure : Bool) × (text : List ℕ) × Reaches words left left_after secure text × AppendsProperPrefix written written_after text
 
--- A file is refused: all that was left of the source was read, at most 1,048,576 bytes, and the line is the first that isn't
--- allowed at its place.
--- Want of memory is no refusal of a file.
+-- A file is refused: all that was left of the source was read, at most 1,048,576 bytes, the file of which the error is the first
+-- offence. Want of memory is no refusal of a file.
 abbrev pub RefusesFile : Option (List ℕ) → Option (List ℕ) → FileError → Type 0
-RefusesFile left left_after (errors.Syntax line) = IsAtEnd left_after × IfSome left (λ bytes. (length bytes ≤ 1048576) × FileSays bytes (Err line))
-RefusesFile left left_after errors.OutOfMemory = ⊥
+RefusesFile left left_after error =
+    (error ≢ errors.OutOfMemory) × IsAtEnd left_after × IfSome left (λ bytes. (length bytes ≤ 1048576) × FileSays bytes (Err error))
 
 -- all that was left of the source was read, at most 1,048,576 bytes, the file of a gadget whose first variable outside the class
 -- the error names

@@ -1,7 +1,7 @@
 -- The text of a report.
 use Rattle.std.specs.Prelude.{ℕ, ◌<◌, List, [], ◌∷◌, ◌++◌, length, All, flat_map, codes, decimal}
 use Rattle.gadget_model.specs.Circuit.{Circuit}
-use Rattle.gadget_tree.specs.FlatForm.{name_at}
+use Rattle.gadget_tree.specs.Variables.{name_at}
 
 abbrev pub newline : List ℕ
 newline = 10 ∷ []

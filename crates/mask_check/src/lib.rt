@@ -7,9 +7,11 @@ mod minimal;
 mod report;
 mod run;
 pub mod status;
+mod texts;
 pub mod words;
 
 pub use line::Line;
 pub use run::{check, no_fault_law};
-pub use status::{Status, UsageKind, exit_status, status_text};
+pub use status::{Status, UsageKind};
+pub use texts::{exit_status, status_text};
 pub use words::settings;

@@ -1,6 +1,6 @@
 //! The text of a report.
 ghost use Rattle.std.specs.Prelude.{◌≡◌, ◌<◌, ◌++◌, length, All, IfOk, OnOk, string_bytes};
-ghost use Rattle.gadget_tree.specs.FlatForm.{name_at};
+ghost use Rattle.gadget_tree.specs.Variables.{name_at};
 ghost use Rattle.mask_check.specs.Report.{AreVariables, check_line as check_line_of, gadget_line as gadget_line_of, space_line as space_line_of, head as head_of, name_word, fail_line, verdict, report as report_of};
 
 use gadget_tree::Gadget;

@@ -5,7 +5,7 @@ ghost use Rattle.mask_bytes.specs.Counts.{Rose};
 ghost use Rattle.mask_bytes.specs.Flow.{IsLonger, LosesCount, LosesAtMost};
 ghost use Rattle.gadget_model.specs.Circuit.{Circuit};
 ghost use Rattle.gadget_model.specs.Classes.{IsInClass};
-ghost use Rattle.gadget_tree.specs.FlatForm.{FileSays};
+ghost use Rattle.gadget_tree.specs.File.{FileSays};
 ghost use Rattle.mask_check.specs.Words.{words_ask};
 ghost use Rattle.mask_check.specs.Refusals.{Refuses};
 ghost use Rattle.mask_check.specs.Check.{Completes, BreaksOff, RefusesFile, RefusesGadget, WritesNothing, IsVerdictIfMemoryLasts};

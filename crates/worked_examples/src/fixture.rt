@@ -1,7 +1,7 @@
 //! The gadget file and the report that most examples share, and how they are checked.
 ghost use Rattle.std.specs.Prelude.{◌≤◌};
 
-use mask_bytes::{MemSink, MemSource, Source};
+use mask_bytes::{MemSink, MemSource, Source, SureSource};
 use mask_check::{Status, check};
 use std::alloc::Global;
 use std::test::Fail;
@@ -12,6 +12,13 @@ pub const SUM: &str = "#SHARES 2\n#IN a\n#OUT d\nd0 = a0 + a1\nd1 = a1\n";
 /// The report of `SUM` at order 1. The sum alone depends on both shares, and one probe may depend on one.
 pub const SUM_REPORT: &str =
     "check ni 1\ngadget shares 2 inputs 1 outputs 1 randoms 0 variables 4\nspace items 4 size 1 tuples 5\nfail 1 d0\nverdict no\n";
+
+/// A refresh of two shares by one random bit, a gadget file of 61 bytes.
+pub const REFRESH: &str = "#SHARES 2\n#IN a\n#RANDOMS r0\n#OUT d\nd0 = a0 + r0\nd1 = a1 + r0\n";
+
+/// The report of `REFRESH` at order 1: no probe depends on a share, but for the shares themselves.
+pub const REFRESH_REPORT: &str =
+    "check ni 1\ngadget shares 2 inputs 1 outputs 1 randoms 1 variables 5\nspace items 5 size 1 tuples 6\nverdict yes\n";
 
 /// How a check ended, and what it wrote.
 #[derive(Drop)]
@@ -58,4 +65,9 @@ pub fn check_source<S: Source>(
 ) -> Result<Outcome, Fail> {
     let sink = MemSink::make(alloc, 1000, 1000, Vec::new(alloc))?;
     check_into(alloc, order, source, sink)
+}
+
+/// Checks the bytes of a file at an order, into a sink that takes all at once.
+pub fn check_bytes(alloc: Global, order: &str, file: &[u8]) -> Result<Outcome, Fail> {
+    check_source(alloc, order, &mut SureSource::make(file.to_vec(alloc)?))
 }

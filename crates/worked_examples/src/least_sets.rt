@@ -2,19 +2,18 @@
 
 ghost use Rattle.std.specs.Prelude.{◌<◌, All, IsTrue, length};
 
+use crate::fixture::REFRESH;
 use gadget_tree::read_gadget;
 use needed::{Scratch, needed};
 use std::test::Fail;
 use wire_table::WireTable;
 
-// Two shares refreshed by one random: the variables are a0, a1, r0, d0 and d1.
-const REFRESH: &str = "#SHARES 2\n#IN a\n#RANDOMS r0\n#OUT d\nd0 = a0 + r0\nd1 = a1 + r0\n";
-
 // The multiplication of Ishai, Sahai and Wagner: the variables are a0, a1, b0, b1, r01, p00, p01, p10, p11, u01, r10, c0 and c1.
 const MULTIPLICATION: &str =
     "#SHARES 2\n#IN a b\n#RANDOMS r01\n#OUT c\np00 = a0 * b0\np01 = a0 * b1\np10 = a1 * b0\np11 = a1 * b1\nu01 = r01 + p01\nr10 = u01 + p10\nc0 = p00 + r01\nc1 = p11 + r10\n";
 
-// Gadgets, variables of each, and the shares that they need: bit 16 * input + index for each.
+// Gadgets, variables of each, and the shares that they need: bit 16 * input + index for each. Those of `REFRESH` are a0, a1,
+// r0, d0 and d1.
 const LEAST: [(&str, &[u16], u64); 9] = [
     (REFRESH, &[3], 0),
     (REFRESH, &[3, 4], 3),

@@ -2,11 +2,17 @@
 #![tactic(auto)]
 
 #[cfg(test)]
+mod canonical;
+#[cfg(test)]
 mod fixture;
+#[cfg(test)]
+mod forms;
 #[cfg(test)]
 mod least_sets;
 #[cfg(test)]
-mod limit;
+mod limits;
+#[cfg(test)]
+mod offences;
 #[cfg(test)]
 mod products;
 #[cfg(test)]
@@ -14,12 +20,12 @@ mod randoms;
 #[cfg(test)]
 mod read_faults;
 #[cfg(test)]
-mod refusals;
-#[cfg(test)]
 mod standard;
 #[cfg(test)]
 mod verdicts;
 #[cfg(test)]
 mod widths;
+#[cfg(test)]
+mod words;
 #[cfg(test)]
 mod write_faults;

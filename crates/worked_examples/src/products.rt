@@ -7,16 +7,25 @@ use std::test::Fail;
 use wire_table::WireError;
 
 // Gadgets with products, and the report of each at order one.
-const MULTIPLICATIONS: [(&str, &str); 4] = [
+const MULTIPLICATIONS: [(&str, &str); 6] = [
     // The multiplication of Ishai, Sahai and Wagner.
     (
         "#SHARES 2\n#IN a b\n#RANDOMS r01\n#OUT c\np00 = a0 * b0\np01 = a0 * b1\np10 = a1 * b0\np11 = a1 * b1\nu01 = r01 + p01\nr10 = u01 + p10\nc0 = p00 + r01\nc1 = p11 + r10\n",
+        "check ni 1\ngadget shares 2 inputs 2 outputs 1 randoms 1 variables 13\nspace items 13 size 1 tuples 14\nverdict yes\n",
+    ),
+    // The same, one line an output share.
+    (
+        "#ORDER 1\r\n#SHARES 2\r\n#IN a b\r\n#RANDOMS r0\r\n#OUT c\r\nc0 = a0 * b0 + r0\r\nc1 = a1 * b1 + ((r0 + a0 * b1) + a1 * b0)\r\n",
         "check ni 1\ngadget shares 2 inputs 2 outputs 1 randoms 1 variables 13\nspace items 13 size 1 tuples 14\nverdict yes\n",
     ),
     // The square of a bit is the bit: the random is only added.
     (
         "#SHARES 2\n#IN a b\n#RANDOMS r0\n#OUT d\nx = a0 + r0\nt = x * x\nd0 = t + b0\nd1 = a1 + r0\n",
         "check ni 1\ngadget shares 2 inputs 2 outputs 1 randoms 1 variables 9\nspace items 9 size 1 tuples 10\nverdict yes\n",
+    ),
+    (
+        "#SHARES 2\n#IN a b\n#RANDOMS r0\n#OUT d\nt = (a0 + r0) * (a0 + r0)\nd0 = t + b0\nd1 = a1 + r0\n",
+        "check ni 1\ngadget shares 2 inputs 2 outputs 1 randoms 1 variables 10\nspace items 10 size 1 tuples 11\nverdict yes\n",
     ),
     // The same of two wires that have one value.
     (
@@ -25,13 +34,21 @@ const MULTIPLICATIONS: [(&str, &str); 4] = [
     ),
     // A share that stands in a product twice counts once for the degree.
     (
-        "#SHARES 2\n#IN a b\n#RANDOMS r0\n#OUT d\nx = a0 * b0\nt = x * a0\nd0 = t + b0\nd1 = a1 + r0\n",
+        "#SHARES 2\n#IN a b\n#RANDOMS r0\n#OUT d\nt = (a0 * b0) * a0\nd0 = t + b0\nd1 = a1 + r0\n",
         "check ni 1\ngadget shares 2 inputs 2 outputs 1 randoms 1 variables 9\nspace items 9 size 1 tuples 10\nverdict yes\n",
     ),
 ];
 
 // Gadgets outside the class, and the first variable that is.
-const REFUSED: [(&str, WireError); 3] = [
+const REFUSED: [(&str, WireError); 5] = [
+    (
+        "#SHARES 2\n#IN a b\n#RANDOMS r0\n#OUT d\nt = (a0 + r0) * b0\nd0 = t + b0\nd1 = a1 + r0\n",
+        WireError::RandomProduct { var: 6, line: 5 },
+    ),
+    (
+        "#SHARES 2\n#IN a b\n#RANDOMS r0\n#OUT d\nt = (a0 * b0) * a1\nd0 = t + b0\nd1 = a1 + r0\n",
+        WireError::Degree { var: 6, line: 5 },
+    ),
     (
         "#SHARES 2\n#IN a b\n#RANDOMS r0\n#OUT d\nx = a0 + r0\nt = x * b0\nd0 = t + b0\nd1 = a1 + r0\n",
         WireError::RandomProduct { var: 6, line: 6 },

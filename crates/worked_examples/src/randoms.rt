@@ -1,6 +1,6 @@
 //! Gadgets with random bits.
 
-use crate::fixture::check_source;
+use crate::fixture::{REFRESH, REFRESH_REPORT, check_source};
 use mask_bytes::SureSource;
 use mask_check::Status;
 use std::test::Fail;
@@ -8,11 +8,7 @@ use std::test::Fail;
 // Files, and how a check of each at order 1 ends and what it reports: a refresh of two shares, and the same with a probe
 // on the sum of both output shares, in which the random cancels.
 const REFRESHES: [(&str, Status, &str); 2] = [
-    (
-        "#SHARES 2\n#IN a\n#RANDOMS r0\n#OUT d\nd0 = a0 + r0\nd1 = a1 + r0\n",
-        Status::Yes,
-        "check ni 1\ngadget shares 2 inputs 1 outputs 1 randoms 1 variables 5\nspace items 5 size 1 tuples 6\nverdict yes\n",
-    ),
+    (REFRESH, Status::Yes, REFRESH_REPORT),
     (
         "#SHARES 2\n#IN a\n#RANDOMS r0\n#OUT d\nd0 = a0 + r0\nd1 = a1 + r0\nx = d0 + d1\n",
         Status::No,

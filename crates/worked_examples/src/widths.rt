@@ -7,14 +7,13 @@ use std::alloc::{AllocError, Global};
 use std::test::Fail;
 use wire_table::WireError;
 
-// Lines that sum all 16 shares of an input, the last of them in a variable `LETTERs15`.
+// The sum of all 16 shares of an input.
 fn push_sum(alloc: Global, file: &mut String, input: &str) -> Result<(), AllocError> {
-    file.push_str(&format!(in alloc; "{input}s1 = {input}0 + {input}1\n")?)?;
-    for k in 2u8..16 {
-        let before = k - 1;
-        file.push_str(&format!(in alloc; "{input}s{k} = {input}s{before} + {input}{k}\n")?)?;
+    file.push_str(&format!(in alloc; "({input}0")?)?;
+    for k in 1u8..16 {
+        file.push_str(&format!(in alloc; " + {input}{k}")?)?;
     }
-    Ok(())
+    file.push_str(")")
 }
 
 // Lines that copy all shares of the input c to the output.
@@ -25,12 +24,13 @@ fn push_copies(alloc: Global, file: &mut String) -> Result<(), AllocError> {
     Ok(())
 }
 
-// A file in which `t`, on line 34, is the product of the sums of all shares of two inputs, and then a line `behind`.
+// A file in which `t`, on line 4, is the product of the sums of all shares of two inputs, and then a line `behind`.
 fn file(alloc: Global, behind: &str) -> Result<String, AllocError> {
-    let mut file = String::from_str(alloc, "#SHARES 16\n#IN a b c\n#OUT d\n")?;
+    let mut file = String::from_str(alloc, "#SHARES 16\n#IN a b c\n#OUT d\nt = ")?;
     push_sum(alloc, &mut file, "a")?;
+    file.push_str(" * ")?;
     push_sum(alloc, &mut file, "b")?;
-    file.push_str("t = as15 * bs15\n")?;
+    file.push_str("\n")?;
     file.push_str(behind)?;
     push_copies(alloc, &mut file)?;
     Ok(file)
@@ -55,7 +55,7 @@ fn one_monomial_more_is_refused(rt: HostRuntime) -> Result<(), Fail> {
     let file = file(alloc, "u = t + c0\n")?;
     let mut source = SureSource::make(file.as_bytes().to_vec(alloc)?);
     let outcome = check_source(alloc, "0", &mut source)?;
-    let refused = WireError::TooWide { var: 79, line: 35 };
+    let refused = WireError::TooWide { var: 79, line: 5 };
     assert_eq!(rt; outcome.status, Status::Wires(refused));
     assert_eq!(rt; outcome.text.as_str(), "");
     Ok(())

@@ -39,3 +39,10 @@ returns-in_err-answer-clause-err g c =
     (unwritten g.S.Source.left g.S.Source.faults g.K.Sink.written g.K.Sink.faults c.args.source.now c.read_whole.new.source c.args.sink.now)
     c.in_ok-bytes.bytes.items (c.in_ok-t.t, search rules) refl (search rules) c.in_ok-bytes.ensures.whole c.in_ok-bytes.ensures.end c.read_whole.ensures.rest
     p.0 p.2)
+
+pub returns-clause-ok : goal.returns-clause-ok
+returns-clause-ok g c = (
+  c.deref-2.result.now,
+  record { t = c.in_ok-t.t; asked = search rules; end = c.in_ok-bytes.ensures.end; short = search rules; gadget = c.in_ok-gadget.gadget; file = search rules; in_class = search rules; answers = search rules },
+  search rules,
+)

@@ -1,0 +1,56 @@
+-- What is known where the headers name their variables without an offence.
+use Rattle.std.proofs.Common.{◌≡◌, ℕ, true, false, not, List, ◌∷◌, ◌++◌, Option, Some, None, Result, Ok, sym, ap, ◌∙◌, subst, append-nil}
+use Rattle.std.proofs.lemmas.List.{map-append}
+use Rattle.std.proofs.lemmas.Bool.{not-false}
+use Rattle.gadget_model.specs.Circuit.{Variable}
+use Rattle.gadget_headers.specs.declared.file_error.FileError.{FileError}
+use Rattle.gadget_headers.specs.declared.file_error.FileError.TheVariants.{NameTwice}
+use Rattle.gadget_headers.specs.Errors.{unless, ◌>>=◌}
+use Rattle.gadget_headers.specs.Headers.{Listed, Preamble}
+use Rattle.gadget_headers.specs.Limits.{stems_of}
+use Rattle.gadget_headers.proofs.Results.{unless_gives, then_gives}
+use Rattle.gadget_tree.specs.declared.var.Var.{Var}
+use Rattle.gadget_tree.specs.Seen.{variable_of, variables_of}
+use Rattle.gadget_tree.specs.Variables.{share_names, names_of, is_among, are_distinct, AreDistinct, header_variables}
+use Rattle.gadget_tree.specs.File.{distinct_randoms, named_variables}
+use Rattle.gadget_tree.proofs.Names.{distinct_from_test, fresh_between}
+
+-- the variables are those of the headers, and all names of the headers differ
+pub record AreNamed (h : Preamble) (start : List Variable) : Type 0 where
+  pub variables : start ≡ header_variables h
+  pub distinct : AreDistinct (share_names h.shares h.inputs.stems ++ stems_of h.randoms ++ share_names h.shares h.outputs.stems)
+
+-- the names of inputs and randoms
+with_randoms : (names now : List (List ℕ)) (randoms : Option Listed) → distinct_randoms names randoms ≡ Ok now → names ++ stems_of randoms ≡ now
+with_randoms names now None e = append-nil names ∙ (let f : names ≡ now = cc in f)
+with_randoms names now (Some listed) e =
+    let ok : Result (List (List ℕ)) FileError = Ok (names ++ listed.stems) in
+    let a = unless_gives (not (are_distinct (names ++ listed.stems))) (NameTwice listed.line) ok now e in
+    let f = a.1 in
+    cc
+
+-- so it is where no header offends
+pub named_distinct : (h : Preamble) (start : List Variable) → named_variables h ≡ Ok start → AreNamed h start
+named_distinct h start e =
+    let inputs = share_names h.shares h.inputs.stems in
+    let outputs = share_names h.shares h.outputs.stems in
+    let ok : Result (List Variable) FileError = Ok (header_variables h) in
+    let go = λ (names : List (List ℕ)). unless (not (are_distinct (names ++ outputs))) (NameTwice h.outputs.line) ok in
+    let a = unless_gives (not (are_distinct inputs)) (NameTwice h.inputs.line) (distinct_randoms inputs h.randoms >>= go) start e in
+    let b = then_gives (distinct_randoms inputs h.randoms) go start a.1 in
+    let c = unless_gives (not (are_distinct (b.0 ++ outputs))) (NameTwice h.outputs.line) ok start b.2 in
+    let names = with_randoms inputs b.0 h.randoms b.1 in
+    let distinct = distinct_from_test (b.0 ++ outputs) (not-false (are_distinct (b.0 ++ outputs)) c.0) in
+    record {
+      variables = let f = c.1 in cc;
+      distinct = subst (λ (z : List (List ℕ)). AreDistinct (z ++ outputs)) (sym names) distinct;
+    }
+
+-- each variable has a name that none before it has
+pub fresh_next : (vars before behind : List Var) (v : Var) → before ++ v ∷ behind ≡ vars → are_distinct (names_of (variables_of vars)) ≡ true → is_among (names_of (variables_of before)) v.name ≡ false
+fresh_next vars before behind v e distinct =
+    let parts : names_of (variables_of vars) ≡ names_of (variables_of before) ++ v.name ∷ names_of (variables_of behind) =
+    ap (λ (vs : List Var). names_of (variables_of vs)) (sym e)
+    ∙ ap names_of (map-append variable_of before (v ∷ behind))
+    ∙ map-append (λ (x : Variable). x.name) (variables_of before) (variables_of (v ∷ behind)) in
+    fresh_between (names_of (variables_of before)) (names_of (variables_of behind)) v.name (ap are_distinct (sym parts) ∙ distinct)

@@ -1,0 +1,120 @@
+//! The kinds of the variables that a line makes, found with a stack.
+
+ghost use Rattle.std.specs.Prelude.{◌≡◌, ◌≤◌, ◌<◌, ◌+◌, ◌++◌, All, IfOk, OnOk, IfSome, IfNone, length, map, reverse, [], ◌∷◌};
+ghost use Rattle.gadget_grammar.specs.Seen.{IsStepWithin, step_in, steps_in};
+ghost use Rattle.gadget_tree.specs.Made.{operation_count, count_made, with_node, after_step, after_steps, start, finished, nodes_made, making_of};
+ghost use Rattle.gadget_tree.specs.Seen.{variables_of, node_of};
+ghost use Rattle.gadget_tree.specs.Variables.{names_of, place_of};
+
+use crate::text::text;
+use crate::var::VarKind;
+use crate::variables::Variables;
+use gadget_grammar::Step;
+use std::alloc::{AllocError, Global};
+
+/// How far the operations of a line are made.
+#[derive(Drop)]
+struct Making {
+    /// The numbers of the variables whose values wait, the last at the end.
+    stack: Vec<u16>,
+    kinds: Vec<VarKind>,
+}
+
+// Takes the last two numbers off a stack that has two, in the order in which they stand.
+fn pop_two(stack: &mut Vec<u16>) -> Option<(u16, u16)>
+    ensures some { IfSome result (λ p. stack.old.items ≡ stack.new.items ++ p.0 ∷ p.1 ∷ []) }
+    ensures none { IfNone result ((length stack.old.items < 2) × (stack.new.items ≡ stack.old.items)) }
+{
+    if stack.len() < 2 {
+        return None;
+    }
+    let right = stack.pop()?;
+    let left = stack.pop()?;
+    Some((left, right))
+}
+
+impl Making {
+    // Nothing is made.
+    fn new(alloc: Global) -> Making
+        ensures { making_of result ≡ start }
+    {
+        Making {
+            stack: Vec::new(alloc),
+            kinds: Vec::new(alloc),
+        }
+    }
+
+    // Makes one more variable, which waits, where the first one made has the number `base`.
+    fn put(&mut self, base: usize, kind: VarKind) -> Result<(), AllocError>
+        requires { base + length self.old.kinds.items < 512 }
+        ensures { OnOk result (making_of self.new ≡ with_node base (making_of self.old).stack (making_of self.old).nodes (node_of kind)) }
+    {
+        let number = (base + self.kinds.len()) as u16;
+        self.kinds.push(kind)?;
+        self.stack.push(number)?;
+        Ok(())
+    }
+
+    // Goes one step on.
+    fn advance(&mut self, bytes: &[u8], variables: &Variables, step: Step) -> Result<(), AllocError>
+        requires within { IsStepWithin (length bytes.now) step }
+        requires room { length variables.now + length self.old.kinds.items < 512 }
+        ensures { OnOk result (making_of self.new ≡ after_step (place_of (names_of (variables_of variables.now))) (length variables.now) (making_of self.old) (step_in bytes.now step)) }
+    {
+        let base = variables.len();
+        match step {
+            Step::Name(token) => {
+                self.stack.push(variables.place(text(bytes, token)))?;
+                Ok(())
+            }
+            Step::Sum => {
+                let Some((left, right)) = pop_two(&mut self.stack) else {
+                    return Ok(());
+                };
+                self.put(base, VarKind::Sum(left, right))
+            }
+            Step::Product => {
+                let Some((left, right)) = pop_two(&mut self.stack) else {
+                    return Ok(());
+                };
+                self.put(base, VarKind::Product(left, right))
+            }
+        }
+    }
+
+    // The kinds, or else a copy of the variable that waits.
+    fn finish(self) -> Result<Vec<VarKind>, AllocError>
+        ensures { IfOk result (λ v. map node_of v.items ≡ finished (making_of self)) }
+    {
+        let Making {
+            mut stack,
+            mut kinds,
+        } = self;
+        if !kinds.is_empty() {
+            return Ok(kinds);
+        }
+        let Some(last) = stack.pop() else {
+            return Ok(kinds);
+        };
+        kinds.push(VarKind::Copy(last))?;
+        Ok(kinds)
+    }
+}
+
+/// The kinds of the variables that a line with these steps makes, in post-order, where these are the variables before it.
+pub(crate) fn kinds_made(
+    alloc: Global,
+    bytes: &[u8],
+    variables: &Variables,
+    steps: &[Step],
+) -> Result<Vec<VarKind>, AllocError>
+    requires within { All (IsStepWithin (length bytes.now)) steps.now }
+    requires room { length variables.now + count_made (steps_in bytes.now steps.now) ≤ 511 }
+    ensures { IfOk result (λ v. map node_of v.items ≡ nodes_made (place_of (names_of (variables_of variables.now))) (length variables.now) (steps_in bytes.now steps.now)) }
+{
+    let mut making = Making::new(alloc);
+    for step in steps {
+        making.advance(bytes, variables, *step)?;
+    }
+    making.finish()
+}
