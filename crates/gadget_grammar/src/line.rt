@@ -9,7 +9,7 @@ use crate::grammar_error::GrammarError;
 use crate::nesting::is_too_deep;
 use crate::reader::expression;
 use crate::step::{Assignment, Step};
-use gadget_text::{Token, TokenKind, is_name};
+use gadget_text::{Token, TokenKind, is_name, text};
 use std::alloc::Global;
 
 // The name on the left side, where a line begins with a name and `=`.
@@ -27,7 +27,7 @@ fn left_side(bytes: &[u8], tokens: &[Token]) -> Option<Token>
     if left.kind != TokenKind::Word || tokens[1].kind != TokenKind::Equals {
         return None;
     }
-    if !is_name(&bytes[left.from as usize..left.to as usize]) {
+    if !is_name(text(bytes, left)) {
         return None;
     }
     Some(left)

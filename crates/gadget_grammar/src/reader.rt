@@ -10,7 +10,7 @@ ghost use Rattle.gadget_grammar.specs.Seen.{symbols_in, steps_in, name_tokens, w
 use crate::grammar_error::GrammarError;
 use crate::level::Level;
 use crate::step::Step;
-use gadget_text::{Token, TokenKind, is_name};
+use gadget_text::{Token, TokenKind, is_name, text};
 use std::alloc::{AllocError, Global};
 
 /// How far an expression is read.
@@ -83,7 +83,7 @@ impl Reader {
     {
         match token.kind {
             TokenKind::Word => {
-                if !is_name(&bytes[token.from as usize..token.to as usize]) {
+                if !is_name(text(bytes, token)) {
                     return Err(GrammarError::Syntax);
                 }
                 self.steps.push(Step::Name(token))?;

@@ -11,8 +11,8 @@ ghost use Rattle.gadget_headers.specs.Seen.{Gives, so_far_in, texts_in, IsSoFarW
 use crate::file_error::{FileError, What};
 use crate::header_line::HeaderLine;
 use crate::number::number_to_255;
-use crate::stems::{Stems, listed, text};
-use gadget_text::{Header, Token, is_number};
+use crate::stems::{Stems, listed};
+use gadget_text::{Header, Token, is_number, text};
 
 /// What the headers so far say; `None` where a header hasn't come.
 #[derive(Clone, Copy)]

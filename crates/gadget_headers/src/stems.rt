@@ -3,12 +3,12 @@
 ghost use Rattle.std.specs.Prelude.{◌≡◌, All, IfOk, length};
 ghost use Rattle.std.specs.List.{list_all};
 ghost use Rattle.gadget_text.specs.Names.{is_stem};
-ghost use Rattle.gadget_text.specs.Places.{IsWithin, text_in};
+ghost use Rattle.gadget_text.specs.Places.{IsWithin};
 ghost use Rattle.gadget_headers.specs.Headers.{listed};
 ghost use Rattle.gadget_headers.specs.Seen.{Gives, listed_in, texts_in, AreWordsWithin};
 
 use crate::file_error::{FileError, What};
-use gadget_text::{Token, is_stem};
+use gadget_text::{Token, is_stem, text};
 
 /// The stems that a header lists.
 #[derive(Clone, Copy)]
@@ -17,14 +17,6 @@ pub struct Stems<'a> {
     pub line: u32,
     /// The places of the stems.
     pub words: &'a [Token],
-}
-
-/// The text of a token.
-pub(crate) fn text<'b>(bytes: &'b [u8], token: Token) -> &'b [u8]
-    requires { IsWithin (length bytes.now) token }
-    ensures { result.now ≡ text_in bytes.now token }
-{
-    &bytes[token.from as usize..token.to as usize]
 }
 
 fn are_stems(bytes: &[u8], words: &[Token]) -> bool

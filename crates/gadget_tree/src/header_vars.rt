@@ -10,10 +10,9 @@ ghost use Rattle.gadget_tree.specs.Seen.{variables_of};
 
 use crate::name::Name;
 use crate::name_list::share_name;
-use crate::text::text;
 use crate::var::{Var, VarKind};
 use gadget_headers::{Headers, Stems};
-use gadget_text::Token;
+use gadget_text::{Token, text};
 use std::alloc::{AllocError, Global};
 
 // Adds the variables of the shares of one input.

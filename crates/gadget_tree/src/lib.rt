@@ -14,7 +14,6 @@ mod operations;
 mod outputs;
 mod print;
 mod start;
-mod text;
 mod var;
 mod variables;
 

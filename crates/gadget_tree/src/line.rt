@@ -18,12 +18,11 @@ ghost use Rattle.gadget_tree.specs.Variables.{names_of, is_among};
 use crate::inner_names::{is_some_taken, name_made};
 use crate::making::kinds_made;
 use crate::operations::{are_known, count_made};
-use crate::text::text;
 use crate::var::{Var, VarKind};
 use crate::variables::Variables;
 use gadget_grammar::{GrammarError, Step, assignment};
 use gadget_headers::{FileError, What};
-use gadget_text::{LineTokens, Token, TokenKind, first_line};
+use gadget_text::{LineTokens, Token, TokenKind, first_line, text};
 use std::alloc::{AllocError, Global};
 
 // The variables behind those that a line makes of operations of these kinds, which assigns to this name.

@@ -6,10 +6,10 @@ ghost use Rattle.gadget_tree.specs.Made.{operation_count, count_made, with_node,
 ghost use Rattle.gadget_tree.specs.Seen.{variables_of, node_of};
 ghost use Rattle.gadget_tree.specs.Variables.{names_of, place_of};
 
-use crate::text::text;
 use crate::var::VarKind;
 use crate::variables::Variables;
 use gadget_grammar::Step;
+use gadget_text::text;
 use std::alloc::{AllocError, Global};
 
 /// How far the operations of a line are made.

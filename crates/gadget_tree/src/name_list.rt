@@ -6,8 +6,7 @@ ghost use Rattle.gadget_text.specs.Places.{IsWithin, text_in};
 ghost use Rattle.gadget_tree.specs.Variables.{share_name, share_names, is_among, are_distinct};
 
 use crate::name::Name;
-use crate::text::text;
-use gadget_text::Token;
+use gadget_text::{Token, text};
 use std::alloc::{AllocError, Global};
 
 /// The name of a share: the stem, and the index in decimal.

@@ -8,9 +8,9 @@ ghost use Rattle.gadget_tree.specs.Made.{operation_count, count_made, is_known};
 ghost use Rattle.gadget_tree.specs.Seen.{variables_of};
 ghost use Rattle.gadget_tree.specs.Variables.{names_of};
 
-use crate::text::text;
 use crate::variables::Variables;
 use gadget_grammar::Step;
+use gadget_text::text;
 
 // How many of the steps are operations.
 fn operation_count(steps: &[Step]) -> usize

@@ -11,9 +11,9 @@ ghost use Rattle.gadget_tree.specs.Seen.{variables_of};
 ghost use Rattle.gadget_tree.specs.Variables.{share_name, names_of, place_of};
 
 use crate::name_list::share_name;
-use crate::text::text;
 use crate::variables::Variables;
 use gadget_headers::{FileError, Headers};
+use gadget_text::text;
 use std::alloc::Global;
 
 // Adds the variables of the shares of one output.

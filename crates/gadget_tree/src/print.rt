@@ -16,10 +16,9 @@ use std::alloc::Global;
 
 /// The canonical text of a gadget: its headers, and then each operation on a line of its own. It reads again as the same gadget,
 /// apart from the lines of its variables.
-#[tactic(auto, using(crate::proofs::Canonical::canonical_reads))]
 pub fn print_gadget(alloc: Global, gadget: &Gadget) -> Result<Vec<u8>, OutOfMemory>
     ensures text { IfOk result (λ text. text.items ≡ canonical_text gadget.now) }
-    ensures reads_again { (h : Circuit) × FileSays (canonical_text gadget.now) (Ok h) × AreEqualButForLines gadget.now h }
+    ensures reads_again { IfOk result (λ text. (h : Circuit) × FileSays text.items (Ok h) × AreEqualButForLines gadget.now h) }
 {
     let vars = gadget.vars();
     let mut text = shares_line(alloc, gadget.shares())?;
