@@ -1,52 +1,26 @@
-//! Gaussian elimination: each row becomes one pivot or one mask.
+//! Gaussian elimination: the kernel is what each row makes cancel with those before it.
 
 ghost use Rattle.std.specs.Prelude.{◌≡◌, ◌≤◌, ◌<◌, ◌^◌, length};
 ghost use Rattle.std.specs.List.{All};
-ghost use Rattle.gf2_rows.specs.Combinations.{Cancels, AreIndependent, SpanCancelling};
-ghost use Rattle.gf2_rows.specs.Reduction.{reduced_by};
+ghost use Rattle.gf2_rows.specs.Combinations.{most_rows, Cancels, AreIndependent, SpanCancelling};
 
 use crate::kernels::Kernel;
 use crate::mask_list::MaskList;
-use crate::pivot_list::{Combination, Pivot, PivotList};
+use crate::row_stack::RowStack;
 
-// The combination without the bits of the pivots.
-fn reduced(pivots: &[Pivot], mut row: Combination) -> Combination
-    requires { All (λ p. p.bit < 128) pivots.now }
-    ensures { result ≡ reduced_by pivots.now row }
-{
-    for pivot in pivots {
-        if (row.total >> pivot.bit) & 1 == 1 {
-            row.mask ^= pivot.row.mask;
-            row.total ^= pivot.row.total;
-        }
-    }
-    row
-}
-
-// Reduces each row by the pivots of those before it: a row that becomes zero gives a mask, any
-// other one a pivot.
-fn eliminate(rows: &[u128], echelon: &mut PivotList, found: &mut MaskList)
-    requires { length rows.now ≤ 64 }
+// Pushes the rows onto an empty stack, and keeps each mask that this finds.
+fn eliminate(rows: &[u128], stack: &mut RowStack, found: &mut MaskList)
+    requires { length rows.now ≤ most_rows }
     ensures below { All (λ mask. mask < 2 ^ length rows.now) found.new }
     ensures cancel { All (Cancels rows.now) found.new }
     ensures independent { AreIndependent found.new }
     ensures whole { SpanCancelling rows.now found.new }
 {
-    echelon.clear();
+    stack.truncate(0);
     found.clear();
-    for (i, &total) in rows.iter().enumerate() {
-        let given = Combination {
-            mask: 1 << i,
-            total,
-        };
-        let row = reduced(echelon.pivots(), given);
-        if row.total == 0 {
-            found.push(row.mask);
-        } else {
-            echelon.push(Pivot {
-                row,
-                bit: row.total.trailing_zeros(),
-            });
+    for &row in rows {
+        if let Some(mask) = stack.push(row) {
+            found.push(mask);
         }
     }
 }
@@ -55,11 +29,11 @@ fn eliminate(rows: &[u128], echelon: &mut PivotList, found: &mut MaskList)
 /// stands for row j. The masks that `out` had before are gone, and the new ones come in no order that
 /// a caller may rely on.
 pub fn kernel(rows: &[u128], out: &mut Kernel)
-    requires { length rows.now ≤ 64 }
+    requires { length rows.now ≤ most_rows }
     ensures below { All (λ mask. mask < 2 ^ length rows.now) out.new }
     ensures cancel { All (Cancels rows.now) out.new }
     ensures independent { AreIndependent out.new }
     ensures whole { SpanCancelling rows.now out.new }
 {
-    eliminate(rows, &mut out.echelon, &mut out.found);
+    eliminate(rows, &mut out.stack, &mut out.found);
 }

@@ -1,13 +1,18 @@
-//! Linear algebra over GF(2): the kernel of up to 64 rows, as the masks of the rows that cancel.
+//! Linear algebra over GF(2): which combinations of up to 64 rows cancel.
 #![tactic(auto)]
 
 mod elimination;
 mod kernels;
 mod mask_list;
-mod pivot_list;
+mod pivots;
+mod row_stack;
 
 pub use elimination::kernel;
 pub use kernels::Kernel;
+pub use row_stack::RowStack;
+
+/// How many rows are combined at most: a mask has a bit for each.
+pub const MOST_ROWS: usize = 64;
 
 #[cfg(test)]
 mod tests;
