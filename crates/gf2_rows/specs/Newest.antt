@@ -11,7 +11,8 @@ pub record IsNewlyCancelling (rows : List ℕ) (row mask : ℕ) : Type 0 where
 
 -- no combination of the rows and one row more that has that one sums to zero
 abbrev pub NoneIsNewlyCancelling : List ℕ → ℕ → Type 0
-NoneIsNewlyCancelling rows row = (mask : ℕ) → mask < 2 ^ (length rows + 1) → Cancels (rows ++ row ∷ []) mask → mask < 2 ^ length rows
+NoneIsNewlyCancelling rows row =
+    (mask : ℕ) → mask < 2 ^ (length rows + 1) → Cancels (rows ++ row ∷ []) mask → mask < 2 ^ length rows
 
 -- the answer for one row more: a combination that has it and sums to zero, or none where there is none
 abbrev pub NewlyCancels : List ℕ → ℕ → Option ℕ → Type 0

@@ -48,8 +48,8 @@ pub record ArePivotsOf (rows : List ℕ) (ps : List Pivot) : Type 0 where
   pub state : IsEliminated rows ps masks
   pub bits : All (λ p. p.bit < 128) ps
 
--- A stack of rows: elimination of each prefix of them has found as many of the pivots as its rank says. Ranks never fall,
--- so a pivot that is written after those of one prefix leaves the pivots of each shorter one.
+-- A stack of rows: elimination of each prefix of them has found as many of the pivots as its rank says. Ranks never
+-- fall, so a pivot that is written after those of one prefix leaves those of each shorter one.
 pub record IsStack (rows : List ℕ) (pivots : List Pivot) (ranks : List ℕ) (count : ℕ) : Type 0 where
   pub size : length pivots ≡ most_rows
   pub few : count ≤ most_rows

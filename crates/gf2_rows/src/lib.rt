@@ -14,5 +14,8 @@ pub use row_stack::RowStack;
 /// How many rows are combined at most: a mask has a bit for each.
 pub const MOST_ROWS: usize = 64;
 
+/// How many prefixes so many rows have, with the empty one.
+pub const MOST_PREFIXES: usize = MOST_ROWS + 1;
+
 #[cfg(test)]
 mod tests;

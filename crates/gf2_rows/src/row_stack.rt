@@ -4,12 +4,9 @@ ghost use Rattle.std.specs.Prelude.{◌≡◌, ◌<◌, ◌++◌, ◌∷◌, [],
 ghost use Rattle.gf2_rows.specs.Combinations.{most_rows};
 ghost use Rattle.gf2_rows.specs.Newest.{NewlyCancels};
 
-use crate::MOST_ROWS;
+use crate::{MOST_PREFIXES, MOST_ROWS};
 use crate::pivots::{Combination, Pivot, reduced};
 use std::marker::Model;
-
-// How many prefixes the rows have, with the empty one.
-const MOST_PREFIXES: usize = MOST_ROWS + 1;
 
 /// A list of at most 64 rows, with what their elimination found. A row more takes the time of one
 /// reduction, and none is done again when rows are taken off the end. It takes no memory.

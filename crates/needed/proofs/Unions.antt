@@ -1,10 +1,9 @@
 -- Unions of sets: a union is within a set exactly where each of its parts is.
-use Rattle.std.proofs.Common.{◌≡◌, ◌↔◌, ℕ, ◌+◌, ◌-◌, ◌*◌, ◌/◌, ◌%◌, ◌<◌, ◌≤◌, true, eqb, List, length, take, get_or, ap, sym, ◌∙◌, inl, inr, arith, subst}
-use Rattle.std.specs.Prelude.{bit_and, bit_or, All, slice_index}
+use Rattle.std.proofs.Common.{◌≡◌, ◌↔◌, ℕ, ◌+◌, ◌-◌, ◌*◌, ◌/◌, ◌%◌, ◌<◌, ◌≤◌, true, eqb, List, length, get_or, ap, sym, ◌∙◌, inl, inr, arith, subst}
+use Rattle.std.specs.Prelude.{bit_and, bit_or, slice_index}
 use Rattle.std.specs.Int.{bit_at}
 use Rattle.std.proofs.lemmas.Bool.{cases_lt, cases_eq, eq-eqb, eqb-true, false≢true}
-use Rattle.std.proofs.lemmas.List.{get_or-take, get_or_past, length-take-le}
-use Rattle.std.proofs.lemmas.List.Elements.{All-more}
+use Rattle.std.proofs.lemmas.List.{get_or_past}
 use Rattle.std.proofs.lemmas.Nat.Bits.{bit_at-lt, bit_at_or, bit_at-zero}
 use Rattle.gadget_model.specs.Simulation.{IsWithin}
 use Rattle.bit_lists.proofs.NumberBits.{bit_cases}
@@ -60,10 +59,6 @@ WordIsWithin-past products first word low set h past = (
 abbrev pub WordsAreWithin : List ℕ → List ℕ → ℕ → ℕ → Type 0
 WordsAreWithin products row n set = (j : ℕ) → j < length products → j < 64 * n → has_bit row j ≡ true → IsWithin (slice_index products j) set
 
--- no word has any
-pub WordsAreWithin-zero : (products row : List ℕ) (set : ℕ) → IsWithin 0 set ↔ WordsAreWithin products row 0 set
-WordsAreWithin-zero products row set = ((λ h j l m. absurd (omega arith)), (λ h. IsWithin-zero set))
-
 -- all words have those of the row
 pub WordsAreWithin-all : (products row : List ℕ) (n set : ℕ) → length row ≤ n → WordsAreWithin products row n set ↔ RowIsWithin products row set
 WordsAreWithin-all products row n set past = (
@@ -100,23 +95,4 @@ WordsAreWithin-more products row place union shares h one set =
             (eq-eqb (bit_at (get_or row ((64 * place + bit) / 64) 0) ((64 * place + bit) % 64)) 1
             (ap (λ (k : ℕ). bit_at (get_or row k 0) ((64 * place + bit) % 64)) e ∙ ap (bit_at (get_or row place 0)) e' ∙ has))),
       )),
-    )
-
--- The union of what the masks of a list leave, with one mask more. P says of a mask that what it leaves is within a set.
-pub union_more : (P : ℕ → ℕ → Type 0) (masks : List ℕ) (i union shares : ℕ) → i < length masks →
-    ((set : ℕ) → IsWithin union set ↔ All (λ mask. P mask set) (take i masks)) →
-    ((set : ℕ) → IsWithin shares set ↔ P (get_or masks i 0) set) →
-    (set : ℕ) → IsWithin (bit_or union shares) set ↔ All (λ mask. P mask set) (take (i + 1) masks)
-union_more P masks i union shares l h one set =
-    let parts = IsWithin-or union shares set in (
-      (λ within. All-more (λ mask. P mask set) masks i 0 l ((h set).0 (parts.0 within).0) ((one set).0 (parts.0 within).1)),
-      (λ each.
-          let size : length (take (i + 1) masks) ≡ i + 1 = length-take-le (i + 1) masks (omega arith) in
-          let fewer : length (take i masks) ≡ i = length-take-le i masks (omega arith) in
-          let at : (k : ℕ) (d : ℕ) → k < i + 1 → P (get_or masks k d) set =
-          λ k d m. subst (λ (mask : ℕ). P mask set) (get_or-take (i + 1) masks k d m) (each k d (omega arith)) in
-          parts.1 (
-            (h set).1 (λ k d m. subst (λ (mask : ℕ). P mask set) (sym (get_or-take i masks k d (omega arith))) (at k d (omega arith))),
-            (one set).1 (at i 0 (omega arith)),
-          )),
     )
