@@ -4,13 +4,24 @@ ghost use Rattle.std.specs.Prelude.{◌<◌, All, IsTrue, length};
 
 use crate::fixture::REFRESH;
 use gadget_tree::read_gadget;
-use needed::{Scratch, needed};
+use mask_bytes::OutOfMemory;
+use needed::{Elimination, Scratch, needed};
+use std::alloc::Global;
 use std::test::Fail;
 use wire_table::WireTable;
 
 // The multiplication of Ishai, Sahai and Wagner: the variables are a0, a1, b0, b1, r01, p00, p01, p10, p11, u01, r10, c0 and c1.
 const MULTIPLICATION: &str =
     "#SHARES 2\n#IN a b\n#RANDOMS r01\n#OUT c\np00 = a0 * b0\np01 = a0 * b1\np10 = a1 * b0\np11 = a1 * b1\nu01 = r01 + p01\nr10 = u01 + p10\nc0 = p00 + r01\nc1 = p11 + r10\n";
+
+// The multiplication of five shares, which has 85 variables.
+const FIVE_SHARES: &str =
+    "#SHARES 5\n#IN a b\n#RANDOMS r01 r02 r03 r04 r12 r13 r14 r23 r24 r34\n#OUT c\n\
+    c0 = a0 * b0 + r01 + r02 + r03 + r04\n\
+    c1 = a1 * b1 + (r01 + a0 * b1 + a1 * b0) + r12 + r13 + r14\n\
+    c2 = a2 * b2 + (r02 + a0 * b2 + a2 * b0) + (r12 + a1 * b2 + a2 * b1) + r23 + r24\n\
+    c3 = a3 * b3 + (r03 + a0 * b3 + a3 * b0) + (r13 + a1 * b3 + a3 * b1) + (r23 + a2 * b3 + a3 * b2) + r34\n\
+    c4 = a4 * b4 + (r04 + a0 * b4 + a4 * b0) + (r14 + a1 * b4 + a4 * b1) + (r24 + a2 * b4 + a4 * b2) + (r34 + a3 * b4 + a4 * b3)\n";
 
 // Gadgets, variables of each, and the shares that they need: bit 16 * input + index for each. Those of `REFRESH` are a0, a1,
 // r0, d0 and d1.
@@ -55,5 +66,44 @@ fn variables_need_the_shares_of_the_products_that_no_random_hides(
             "{vars:?} of {file}"
         );
     }
+    Ok(())
+}
+
+// The next of some shuffled numbers: a linear congruential generator, whose high bits vary most.
+fn shuffled(number: u64) -> u64 {
+    number
+        .wrapping_mul(6_364_136_223_846_793_005)
+        .wrapping_add(1_442_695_040_888_963_407)
+}
+
+// Whether an elimination gives `count` shuffled lists of variables the answers that a new one gives each. Each list but
+// the first has a prefix of the last one, of any length.
+fn agrees_with_new_ones(alloc: Global, table: &WireTable, count: u32) -> Result<bool, OutOfMemory> {
+    let mut scratch = Scratch::make(alloc, table)?;
+    let mut elimination = Elimination::make(alloc, table)?;
+    let mut vars = [0u16; 7];
+    let mut number = 1;
+    for _ in 0..count {
+        number = shuffled(number);
+        vars[(number >> 48) as usize % 7] = ((number >> 32) % 85) as u16;
+        let asked = &vars[..(number >> 61) as usize];
+        if !are_variables(table, asked) {
+            return Ok(false);
+        }
+        if elimination.needed(asked) != needed(table, &mut scratch, asked) {
+            return Ok(false);
+        }
+    }
+    Ok(true)
+}
+
+#[test]
+fn an_elimination_answers_whatever_was_asked_before(rt: HostRuntime) -> Result<(), Fail> {
+    let alloc = rt.alloc();
+    assert!(rt; FIVE_SHARES.len() <= 1_048_576);
+    let gadget = read_gadget(alloc, FIVE_SHARES.as_bytes())?;
+    let table = WireTable::make(alloc, &gadget)?;
+    assert_eq!(rt; table.vars(), 85);
+    assert!(rt; agrees_with_new_ones(alloc, &table, 10_000)?);
     Ok(())
 }
