@@ -8,7 +8,7 @@ use crate::minimal::minimal_failing;
 use crate::report::report;
 use gadget_tree::Gadget;
 use mask_bytes::OutOfMemory;
-use needed::Scratch;
+use needed::Elimination;
 use notions::NiCheck;
 use std::alloc::Global;
 use tuple_order::count;
@@ -34,7 +34,7 @@ pub fn decide(
     ensures { IfOk result (λ answer. Answers gadget.now t answer.secure answer.report.items) }
 {
     let check = NiCheck::make(gadget, table, t)?;
-    let mut scratch = Scratch::make(alloc, table)?;
+    let mut scratch = Elimination::make(alloc, table)?;
     let items = gadget.vars().len() as u16;
     let minimal = minimal_failing(alloc, &check, &mut scratch, items, t)?;
     let report = report(alloc, gadget, t, count(items, t), &minimal)?;

@@ -7,7 +7,7 @@ ghost use Rattle.notions.specs.Ni.{Fails};
 ghost use Rattle.mask_check.specs.Queries.{Settles, failing};
 
 use mask_bytes::OutOfMemory;
-use needed::Scratch;
+use needed::Elimination;
 use notions::NiCheck;
 use std::alloc::Global;
 use tuple_order::{Tuple, count, next, subset};
@@ -17,14 +17,14 @@ use tuple_order::{Tuple, count, next, subset};
 pub fn minimal_failing(
     alloc: Global,
     check: &NiCheck<'_>,
-    scratch: &mut Scratch,
+    scratch: &mut Elimination<'_>,
     items: u16,
     size: u8,
 ) -> Result<Vec<Tuple>, OutOfMemory>
     requires items_at_most { items ≤ 511 }
     requires size_at_most { size ≤ 6 }
     requires variables { length check.now.gadget.variables ≡ items }
-    requires scratch { scratch.old ≡ check.now.monomials }
+    requires scratch { scratch.old ≡ check.now.table }
     ensures answer { IfOk result (λ minimal. IsAnswer (failing check.now) items size minimal.items) }
     ensures settled { OnOk result ((s : List ℕ) → IsTuple items size s → Settles (failing check.now) s) }
 {
@@ -40,9 +40,9 @@ pub fn minimal_failing(
 }
 
 // Whether a set fails and none of its proper subsets does.
-fn is_minimal(check: &NiCheck<'_>, scratch: &mut Scratch, set: &Tuple) -> bool
+fn is_minimal(check: &NiCheck<'_>, scratch: &mut Elimination<'_>, set: &Tuple) -> bool
     requires tuple { IsTuple (length check.now.gadget.variables) 6 set.now }
-    requires scratch { scratch.old ≡ check.now.monomials }
+    requires scratch { scratch.old ≡ check.now.table }
     ensures scratch { scratch.new ≡ scratch.old }
     ensures minimal { IsTrue result → IsMinimal (failing check.now) set.now }
     ensures not_minimal { result ≡ false → IsMinimal (failing check.now) set.now → ⊥ }
@@ -56,9 +56,9 @@ fn is_minimal(check: &NiCheck<'_>, scratch: &mut Scratch, set: &Tuple) -> bool
 }
 
 // Whether some proper subset of a set fails.
-fn has_failing_subset(check: &NiCheck<'_>, scratch: &mut Scratch, set: &Tuple) -> bool
+fn has_failing_subset(check: &NiCheck<'_>, scratch: &mut Elimination<'_>, set: &Tuple) -> bool
     requires tuple { IsTuple (length check.now.gadget.variables) 6 set.now }
-    requires scratch { scratch.old ≡ check.now.monomials }
+    requires scratch { scratch.old ≡ check.now.table }
     ensures scratch { scratch.new ≡ scratch.old }
     ensures found { IsTrue result → (k : ℕ) × (suc k < 2 ^ length set.now) × failing check.now (subset_of k set.now) }
     ensures none { result ≡ false → (k : ℕ) → suc k < 2 ^ length set.now → failing check.now (subset_of k set.now) → ⊥ }

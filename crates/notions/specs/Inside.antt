@@ -1,11 +1,11 @@
 -- The fields of a check as a query.
-use Rattle.std.specs.Prelude.{◌≤◌, length}
+use Rattle.std.specs.Prelude.{◌≤◌}
 use Rattle.wire_table.specs.Tables.{StandsFor}
 use Rattle.notions.specs.declared.ni.NiCheck.TheInside.{Inside}
 use Rattle.notions.specs.Ni.{Query}
 
 abbrev pub query_of : Inside → Query
-query_of c = record { gadget = c.gadget.now; t = c.t; monomials = length c.table.now.products }
+query_of c = record { gadget = c.gadget.now; table = c.table.now; t = c.t }
 
 -- the table stands for the gadget, and the order is small
 pub record IsPrepared (c : Inside) : Type 0 where

@@ -4,6 +4,7 @@ use Rattle.std.specs.Int.{bit_at}
 use Rattle.std.specs.List.{range_with_len}
 use Rattle.gadget_model.specs.Circuit.{Circuit}
 use Rattle.gadget_model.specs.Simulation.{IsSimulatable}
+use Rattle.wire_table.specs.Tables.{Table}
 
 -- how many of the 16 shares that an input may have are in a set
 unfoldable pub shares_of : ℕ → ℕ → ℕ
@@ -22,8 +23,8 @@ pub record Fails (g : Circuit) (t : ℕ) (probes : List ℕ) : Type 0 where
 abbrev pub Passes : Circuit → ℕ → List ℕ → Type 0
 Passes g t probes = (t < length probes) ⊎ ((set : ℕ) × IsGranted g t set × IsSimulatable g probes set)
 
--- A query: a gadget and an order, and how many monomials the gadget's table has, which tells what room an answer needs.
+-- a query: a gadget with its table, and an order
 pub record Query : Type 0 where
   pub gadget : Circuit
+  pub table : Table
   pub t : ℕ
-  pub monomials : ℕ

@@ -7,7 +7,7 @@ ghost use Rattle.wire_table.specs.Tables.{StandsFor};
 
 use gadget_tree::Gadget;
 use mask_bytes::OutOfMemory;
-use needed::{Scratch, needed};
+use needed::Elimination;
 use std::marker::Model;
 use wire_table::WireTable;
 
@@ -39,15 +39,15 @@ impl<'g> NiCheck<'g> {
         requires order { t ≤ 6 }
         ensures gadget { IfOk result (λ check. check.gadget ≡ gadget.now) }
         ensures order { IfOk result (λ check. check.t ≡ t) }
-        ensures monomials { IfOk result (λ check. check.monomials ≡ length table.now.products) }
+        ensures table { IfOk result (λ check. check.table ≡ table.now) }
         ensures succeeds { IsOk result }
     {
         Ok(NiCheck { gadget, table, t })
     }
 
     /// Whether the probes on these variables fail. The scratch is one for the gadget's table.
-    pub fn bad(&self, scratch: &mut Scratch, vars: &[u16]) -> bool
-        requires scratch { scratch.old ≡ self.now.monomials }
+    pub fn bad(&self, scratch: &mut Elimination<'_>, vars: &[u16]) -> bool
+        requires scratch { scratch.old ≡ self.now.table }
         requires rising { IsRising 0 (length self.now.gadget.variables) vars.now }
         ensures scratch { scratch.new ≡ scratch.old }
         ensures fails { IsTrue result → Fails self.now.gadget self.now.t vars.now }
@@ -56,7 +56,7 @@ impl<'g> NiCheck<'g> {
         if usize::from(self.t) < vars.len() {
             return false;
         }
-        let least = needed(self.table, scratch, vars);
+        let least = scratch.needed(vars);
         !is_granted(least, self.gadget.inputs().len() as u8, self.t)
     }
 }

@@ -6,5 +6,5 @@ use Rattle.mask_check.proofs.minimal.has_failing_subset.Given as goal
 abbrev pub invariant-loop-k : goal.invariant-loop-k
 invariant-loop-k l = record {
   none : (j : ℕ) → j < l.k → failing l.check (subset j l.set) → ⊥;
-  scratch : l.scratch ≡ l.check.monomials;
+  scratch : l.scratch ≡ l.check.table;
 }
