@@ -1,2 +1,4 @@
+pub mod Limits
 pub mod Tuples
 pub mod Minimal
+pub mod Antichains

@@ -1,5 +1,5 @@
 -- Sets of items as strictly rising lists of item numbers, called tuples; their order, the list of all, and their subsets.
-use Rattle.std.specs.Prelude.{◌≡◌, ℕ, zero, suc, ◌%◌, ◌/◌, ◌<◌, ◌≤◌, ◌⊎◌, ◌==◌, if◌then◌else◌, List, [], ◌∷◌, ◌++◌, map, length}
+use Rattle.std.specs.Prelude.{◌≡◌, ℕ, zero, suc, ◌%◌, ◌/◌, ◌<◌, ◌≤◌, ◌⊎◌, ◌==◌, if◌then◌else◌, List, [], ◌∷◌, ◌++◌, map, length, Contains}
 
 -- the numbers rise strictly, from low on and below high
 abbrev pub IsRising : ℕ → ℕ → List ℕ → Type 0
@@ -36,3 +36,7 @@ tuples items (suc size) = tuples items size ++ rising (suc size) items 0
 abbrev pub subset : ℕ → List ℕ → List ℕ
 subset k [] = []
 subset k (a ∷ t) = if k % 2 == 1 then a ∷ subset (k / 2) t else subset (k / 2) t
+
+-- the items of the first tuple are all among those of the second
+abbrev pub IsSubset : List ℕ → List ℕ → Type 0
+IsSubset s t = (item : ℕ) → Contains s item → Contains t item

@@ -1,0 +1,6 @@
+//! Lists of tuples of which none is a subset of another.
+#![tactic(auto)]
+
+mod antichain;
+
+pub use antichain::{Added, Antichain};

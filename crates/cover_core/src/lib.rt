@@ -1,0 +1,6 @@
+//! What a query is.
+#![tactic(auto)]
+
+mod query;
+
+pub use query::{Asks, Query};
