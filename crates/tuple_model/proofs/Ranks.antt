@@ -1,5 +1,5 @@
 -- The rank of a tuple, its place in the list of all: each tuple has one, and of two tuples the one that comes before has the lower.
-use Rattle.std.proofs.Common.{◌≡◌, ℕ, zero, suc, ◌+◌, ◌<◌, List, [], ◌∷◌, ◌++◌, length, Some, refl, sym, ◌∙◌, inl, inr, arith, subst, Contains, get_or}
+use Rattle.std.proofs.Common.{◌≡◌, ℕ, zero, suc, ◌+◌, ◌<◌, ◌⊎◌, List, [], ◌∷◌, ◌++◌, length, Some, refl, sym, ◌∙◌, inl, inr, arith, subst, Contains, get_or}
 use Rattle.std.specs.List.{slice_get}
 use Rattle.std.proofs.lemmas.Bool.{cases_lt}
 use Rattle.std.proofs.lemmas.Option.{slice_get_within, get_or_from_slice_get, slice_get_read, slice_get-get_or}
@@ -44,6 +44,22 @@ rank-unique items size i j t e f = elim (cases_lt i j) [
     | inr more ↦ omega arith
   ]
 ]
+
+-- of two tuples one comes before the other, or they are equal
+pub IsBefore-cases : (items size : ℕ) (s t : List ℕ) → IsTuple items size s → IsTuple items size t → IsBefore s t ⊎ ((s ≡ t) ⊎ IsBefore t s)
+IsBefore-cases items size s t g h =
+    let i = rank-from_IsTuple items size s g in
+    let j = rank-from_IsTuple items size t h in
+    elim (cases_lt i.0 j.0) [
+      | inl less ↦ inl (IsBefore-from_ranks items size i.0 j.0 s t i.1 j.1 less)
+      | inr most ↦ elim (cases_lt j.0 i.0) [
+        | inl less ↦ inr (inr (IsBefore-from_ranks items size j.0 i.0 t s j.1 i.1 less))
+        | inr more ↦
+            let e : i.0 ≡ j.0 = omega arith in
+            let same : s ≡ t = cc in
+            inr (inl same)
+      ]
+    ]
 
 slice_get-append_left : {X : Type 0} (xs ys : List X) (k : ℕ) → k < length xs → slice_get (xs ++ ys) k ≡ slice_get xs k
 slice_get-append_left [] ys k l = absurd (omega arith)

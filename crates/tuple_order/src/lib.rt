@@ -2,12 +2,14 @@
 #![tactic(auto)]
 
 mod counts;
+mod encoding;
 mod step_count;
 mod steps;
 mod stubs;
 mod tuples;
 
 pub use counts::count;
+pub use encoding::code_law;
 pub use step_count::Steps;
 pub use stubs::{Range, is_subset, rank, unrank};
 pub use tuples::{Tuple, next, subset};
