@@ -1,5 +1,5 @@
 -- The rank of a tuple, its place in the list of all: each tuple has one, and of two tuples the one that comes before has the lower.
-use Rattle.std.proofs.Common.{◌≡◌, ℕ, zero, suc, ◌+◌, ◌<◌, ◌⊎◌, List, [], ◌∷◌, ◌++◌, length, Some, refl, sym, ◌∙◌, inl, inr, arith, subst, Contains, get_or}
+use Rattle.std.proofs.Common.{◌≡◌, ℕ, zero, suc, ◌+◌, ◌<◌, ◌⊎◌, List, [], ◌∷◌, ◌++◌, length, Some, refl, ap, sym, ◌∙◌, inl, inr, arith, subst, Contains, get_or}
 use Rattle.std.specs.List.{slice_get}
 use Rattle.std.proofs.lemmas.Bool.{cases_lt}
 use Rattle.std.proofs.lemmas.Option.{slice_get_within, get_or_from_slice_get, slice_get_read, slice_get-get_or}
@@ -61,10 +61,16 @@ IsBefore-cases items size s t g h =
       ]
     ]
 
-slice_get-append_left : {X : Type 0} (xs ys : List X) (k : ℕ) → k < length xs → slice_get (xs ++ ys) k ≡ slice_get xs k
+pub slice_get-append_left : {X : Type 0} (xs ys : List X) (k : ℕ) → k < length xs → slice_get (xs ++ ys) k ≡ slice_get xs k
 slice_get-append_left [] ys k l = absurd (omega arith)
 slice_get-append_left (x ∷ xs) ys zero l = refl
 slice_get-append_left (x ∷ xs) ys (suc k) l = slice_get-append_left xs ys k (omega arith)
+
+pub slice_get-append_right : {X : Type 0} (xs ys : List X) (k : ℕ) → slice_get (xs ++ ys) (length xs + k) ≡ slice_get ys k
+slice_get-append_right [] ys k = let z : 0 + k ≡ k = omega arith in ap (slice_get ys) z
+slice_get-append_right (x ∷ xs) ys k =
+    let z : suc (length xs) + k ≡ suc (length xs + k) = omega arith in
+    ap (slice_get (x ∷ (xs ++ ys))) z ∙ slice_get-append_right xs ys k
 
 -- the tuples of at most so many items come first among those of more items, with the same ranks
 pub rank-larger_size : (items size more rank : ℕ) (t : List ℕ) → slice_get (tuples items size) rank ≡ Some t →

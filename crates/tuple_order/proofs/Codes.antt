@@ -8,14 +8,14 @@ use Rattle.tuple_model.proofs.Ranks.{IsBefore-cases}
 use Rattle.tuple_order.specs.Codes.{digits, code_of, items_of_digits, tuple_of_code}
 
 -- the worth of the next digit
-worth-next : (r : ℕ) → 512 ^ suc r / 512 ≡ 512 ^ r
+pub worth-next : (r : ℕ) → 512 ^ suc r / 512 ≡ 512 ^ r
 worth-next r = ap (λ (n : ℕ). n / 512) (pow-suc 512 r) ∙ mul-div_cancel (512 ^ r) {n = 512} (omega arith)
 
-digits-cons : (r item : ℕ) (items : List ℕ) → digits (512 ^ suc r) (item ∷ items) ≡ (item + 1) * 512 ^ suc r + digits (512 ^ r) items
+pub digits-cons : (r item : ℕ) (items : List ℕ) → digits (512 ^ suc r) (item ∷ items) ≡ (item + 1) * 512 ^ suc r + digits (512 ^ r) items
 digits-cons r item items = ap (λ (worth : ℕ). (item + 1) * 512 ^ suc r + digits worth items) (worth-next r)
 
 -- so many digits are worth less than one of the place before
-digits-small : (r low : ℕ) (t : List ℕ) → length t ≤ suc r → IsRising low 511 t → digits (512 ^ r) t < 512 ^ suc r
+pub digits-small : (r low : ℕ) (t : List ℕ) → length t ≤ suc r → IsRising low 511 t → digits (512 ^ r) t < 512 ^ suc r
 digits-small r low [] l h = let p : 1 ≤ 512 ^ suc r = one-le-pow (suc r) 512 (omega arith) in omega arith
 digits-small zero low (x ∷ []) l h = let k = h.1 in omega arith
 digits-small zero low (x ∷ y ∷ t) l h = absurd (omega arith)
@@ -50,6 +50,14 @@ items-from_digits (suc r) high low (x ∷ t) l h =
     ∙ items-from_digits r (high * 512 + (x + 1)) (suc x) t (omega arith) h.2 in
     cc
 
+-- the size stands in the code
+pub code_of-size : (t : List ℕ) → IsTuple most_items most_size t → code_of t / 2 ^ 54 % 256 ≡ length t
+unfolding code_of
+code_of-size t h =
+    let l : length t ≤ 6 = h.short in
+    let d : digits (2 ^ 45) t < 2 ^ 54 = digits-small 5 0 t l h.rising in
+    omega arith
+
 pub tuple_of_code-code_of : (t : List ℕ) → IsTuple most_items most_size t → tuple_of_code (code_of t) ≡ t
 unfolding code_of tuple_of_code
 tuple_of_code-code_of t h =
@@ -57,8 +65,7 @@ tuple_of_code-code_of t h =
     let d : digits (2 ^ 45) t < 2 ^ 54 = digits-small 5 0 t l h.rising in
     let high = 2 ^ 8 + length t in
     let e : code_of t ≡ high * 512 ^ 6 + digits (512 ^ 5) t = omega arith in
-    let size : code_of t / 2 ^ 54 % 256 ≡ length t = omega arith in
-    ap (λ (n : ℕ). items_of_digits n (2 ^ 45) (code_of t)) size
+    ap (λ (n : ℕ). items_of_digits n (2 ^ 45) (code_of t)) (code_of-size t h)
     ∙ ap (items_of_digits (length t) (2 ^ 45)) e
     ∙ items-from_digits 5 high 0 t l h.rising
 
@@ -111,3 +118,10 @@ IsBefore-from_code_of s t g h l = elim (IsBefore-cases most_items most_size s t 
 
 pub code_of-unique : (s t : List ℕ) → IsTuple most_items most_size s → IsTuple most_items most_size t → code_of s ≡ code_of t → s ≡ t
 code_of-unique s t g h e = sym (tuple_of_code-code_of s g) ∙ ap tuple_of_code e ∙ tuple_of_code-code_of t h
+
+-- what is read off from a code is its tuple
+pub items-from_code : (t : List ℕ) (code size : ℕ) → IsTuple most_items most_size t → code_of t ≡ code → size ≡ code / 2 ^ 54 % 256 →
+    items_of_digits size (2 ^ 45) code ≡ t
+unfolding tuple_of_code
+items-from_code t code size h e f =
+    ap (λ (n : ℕ). items_of_digits n (2 ^ 45) code) f ∙ ap tuple_of_code (sym e) ∙ tuple_of_code-code_of t h

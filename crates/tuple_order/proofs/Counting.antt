@@ -1,6 +1,6 @@
 -- How many tuples there are of a size, from how many there are of the size below.
 use Rattle.std.proofs.Common.{◌≡◌, ℕ, zero, suc, ◌+◌, ◌-◌, ◌*◌, ◌/◌, ◌^◌, ◌<◌, ◌≤◌, List, ◌∷◌, map, length, refl, ap, sym, ◌∙◌, inl, inr, arith, subst, length-append, mul-add, add-mul, suc-mul, mul-suc, mul-zero, zero-mul, mul-le-mul, pow_mono}
-use Rattle.std.proofs.Math.Nat.{mul-div_cancel_left}
+use Rattle.std.proofs.Math.Nat.{mul-div_cancel_left, mul-le-mul_right}
 use Rattle.std.proofs.lemmas.Nat.{pow-add}
 use Rattle.std.proofs.Math.ListN.{length-map}
 use Rattle.std.proofs.lemmas.Bool.{cases_lt}
@@ -12,7 +12,7 @@ ways zero items = 1
 ways (suc size) zero = 0
 ways (suc size) (suc items) = ways size items + ways (suc size) items
 
-length-rising : (size room low : ℕ) → length (rising size room low) ≡ ways size room
+pub length-rising : (size room low : ℕ) → length (rising size room low) ≡ ways size room
 length-rising zero room low = refl
 length-rising (suc size) zero low = refl
 length-rising (suc size) (suc room) low =
@@ -85,7 +85,15 @@ product-bound size items l m =
     let b : ways size items * (items - size) ≤ 2 ^ 45 * 512 = mul-le-mul w f in
     omega arith
 
-length-tuples-bound : (items size : ℕ) → items ≤ 511 → size ≤ 6 → length (tuples items size) ≤ suc size * 2 ^ 54
+pub length-rising-bound : (items size low : ℕ) → items ≤ 511 → size ≤ 6 → length (rising size items low) ≤ 2 ^ 54
+length-rising-bound items size low l m =
+    let w = ways-bound size items l in
+    let d : 9 * size ≤ 54 = omega arith in
+    let p : 2 ^ (9 * size) ≤ 2 ^ 54 = pow_mono d in
+    let e = length-rising size items low in
+    omega arith
+
+pub length-tuples-bound : (items size : ℕ) → items ≤ 511 → size ≤ 6 → length (tuples items size) ≤ suc size * 2 ^ 54
 length-tuples-bound items zero l m = omega arith
 length-tuples-bound items (suc size) l m =
     let i = length-tuples-bound items size l (omega arith) in
@@ -110,14 +118,12 @@ module _ (items chosen of_size lacking divisor : ℕ) (few : items ≤ 511) (sho
       ∙ ap (λ (n : ℕ). ways chosen items * (items - chosen) / (n + 1)) by_items
       ∙ ways-next chosen items
 
-  pub step-total : length (tuples items chosen) + of_size * lacking / (divisor + 1) ≡ length (tuples items (chosen + 1))
-  step-total =
-      let e : suc chosen ≡ chosen + 1 = omega arith in
-      let P : ℕ → Type 0 = λ n. length (tuples items chosen) + ways n items ≡ length (tuples items n) in
-      ap (λ (n : ℕ). length (tuples items chosen) + n) step-of_size ∙ subst P e (sym (length-tuples-suc items chosen))
-
-  pub step-bound : length (tuples items chosen) + of_size * lacking / (divisor + 1) ≤ 7 * 2 ^ 54
-  step-bound =
-      let b = length-tuples-bound items (chosen + 1) few (omega arith) in
-      let e = step-total in
-      omega arith
+-- and one step of the count of all: the tuples of the next size join
+pub count-step : (items size : ℕ) → items ≤ 511 → size < 6 →
+    (length (tuples items size) + length (rising (size + 1) items 0) ≡ length (tuples items (size + 1))) × (length (tuples items (size + 1)) ≤ 7 * 2 ^ 54)
+count-step items size few short =
+    let e : suc size ≡ size + 1 = omega arith in
+    let P : ℕ → Type 0 = λ n. length (tuples items size) + length (rising n items 0) ≡ length (tuples items n) in
+    let b = length-tuples-bound items (size + 1) few (omega arith) in
+    let m : suc (size + 1) * 2 ^ 54 ≤ 7 * 2 ^ 54 = mul-le-mul_right (2 ^ 54) (let k : suc (size + 1) ≤ 7 = omega arith in k) in
+    (subst P e (sym (length-append (tuples items size) (rising (suc size) items 0))), omega arith)

@@ -7,7 +7,7 @@ IsRising-prefix : (low high : ℕ) (s t : List ℕ) → IsRising low high (s ++ 
 IsRising-prefix low high [] t h = tt
 IsRising-prefix low high (x ∷ s) t h = (h.0, h.1, IsRising-prefix (suc x) high s t h.2)
 
-IsTuple-prefix : (items size : ℕ) (s t : List ℕ) → IsTuple items size (s ++ t) → IsTuple items size s
+pub IsTuple-prefix : (items size : ℕ) (s t : List ℕ) → IsTuple items size (s ++ t) → IsTuple items size s
 IsTuple-prefix items size s t h = record { short = omega (arith, h.short, length-append s t); rising = IsRising-prefix 0 items s t h.rising }
 
 rest_at : (t : List ℕ) (i : ℕ) → i < length t → drop i t ≡ get_or t i 0 ∷ drop (i + 1) t

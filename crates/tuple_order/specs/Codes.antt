@@ -1,5 +1,5 @@
 -- A code for each tuple, a word that orders as the tuples do, and back.
-use Rattle.std.specs.Prelude.{ℕ, zero, suc, ◌+◌, ◌*◌, ◌-◌, ◌/◌, ◌%◌, ◌^◌, List, [], ◌∷◌, length}
+use Rattle.std.specs.Prelude.{ℕ, zero, suc, ◌+◌, ◌*◌, ◌-◌, ◌/◌, ◌%◌, ◌^◌, ◌<◌, List, [], ◌∷◌, length}
 
 -- Each item plus one is a digit to base 512; the first has this worth.
 abbrev pub digits : ℕ → List ℕ → ℕ
@@ -18,3 +18,11 @@ items_of_digits (suc size) worth code = (code / worth % 512 - 1) ∷ items_of_di
 -- the tuple with a code; for a number that is no code it means nothing
 unfoldable pub tuple_of_code : ℕ → List ℕ
 tuple_of_code code = items_of_digits (code / 2 ^ 54 % 256) (2 ^ 45) code
+
+-- a code of fewer than six items
+abbrev pub HasRoom : ℕ → Type 0
+HasRoom code = (code < 2 ^ 63) × (code / 2 ^ 54 % 256 < 6)
+
+-- the code of a tuple with one item more, above its items, from its own code
+abbrev pub code_with : ℕ → ℕ → ℕ
+code_with code item = code + 2 ^ 54 + (item + 1) * 2 ^ (45 - 9 * (code / 2 ^ 54 % 256))

@@ -1,3 +1,4 @@
 pub mod Held
 pub mod Steps
 pub mod Codes
+pub mod Counts

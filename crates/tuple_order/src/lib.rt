@@ -3,16 +3,16 @@
 
 mod counts;
 mod encoding;
+mod ranks;
 mod step_count;
 mod steps;
-mod stubs;
 mod tuples;
 
 pub use counts::count;
 pub use encoding::code_law;
+pub use ranks::{Range, rank, unrank};
 pub use step_count::Steps;
-pub use stubs::{Range, is_subset, rank, unrank};
-pub use tuples::{Tuple, next, subset};
+pub use tuples::{MOST_ITEMS, MOST_SIZE, Tuple, is_subset, next, subset};
 
 #[cfg(test)]
 mod tests;

@@ -1,10 +1,17 @@
 //! Tuples of at most 6 items, held in place.
 
-ghost use Rattle.std.specs.Prelude.{◌≡◌, ℕ, zero, suc, ◌+◌, ◌^◌, ◌<◌, ◌≤◌, false, List, [], ◌∷◌, ◌++◌, length, IsTrue, Some, None, slice_get};
-ghost use Rattle.tuple_model.specs.Tuples.{IsTuple, tuples, subset as subset_of};
+ghost use Rattle.std.specs.Prelude.{◌≡◌, ◌↔◌, ℕ, zero, suc, ◌+◌, ◌^◌, ◌<◌, ◌≤◌, false, List, [], ◌∷◌, ◌++◌, length, IsTrue, IfSome, IfNone, Some, None, slice_get};
+ghost use Rattle.tuple_model.specs.Limits.{most_items, most_size};
+ghost use Rattle.tuple_model.specs.Tuples.{IsTuple, IsSubset, tuples, subset as subset_of};
 
 use crate::steps::{number_from, raise};
 use std::marker::Model;
+
+/// A query has at most so many items, numbered from 0.
+pub const MOST_ITEMS: u16 = 511;
+
+/// A tuple has at most so many items.
+pub const MOST_SIZE: u8 = 6;
 
 /// A strictly rising list of at most 6 item numbers from 0 to 510.
 #[derive(Clone, Copy, Drop)]
@@ -39,17 +46,37 @@ impl Tuple {
         }
     }
 
+    /// The tuple of these items, where they rise strictly and are few and small enough.
+    pub fn from_items(items: &[u16]) -> Option<Tuple>
+        ensures tuple { IfSome result (λ t. t ≡ items.now) }
+        ensures none { IfNone result (IsTuple most_items most_size items.now → ⊥) }
+    {
+        if items.len() > usize::from(MOST_SIZE) {
+            return None;
+        }
+        let mut t = Tuple::empty();
+        let mut low = 0;
+        for item in items {
+            if *item < low || *item >= MOST_ITEMS {
+                return None;
+            }
+            t.push(*item);
+            low = *item + 1;
+        }
+        Some(t)
+    }
+
     /// The items, in order.
     pub fn items(&self) -> &[u16]
         ensures items { result.now ≡ self.now }
-        ensures tuple { IsTuple 511 6 self.now }
+        ensures tuple { IsTuple most_items most_size self.now }
     {
         &self.items[..usize::from(self.size)]
     }
 
     /// Adds an item above all that are there.
-    fn push(&mut self, item: u16)
-        requires { IsTuple 511 6 (self.old ++ item ∷ []) }
+    pub(crate) fn push(&mut self, item: u16)
+        requires { IsTuple most_items most_size (self.old ++ item ∷ []) }
         ensures { self.new ≡ self.old ++ item ∷ [] }
     {
         self.items[usize::from(self.size)] = item;
@@ -60,8 +87,8 @@ impl Tuple {
 /// Goes on to the next of the tuples of at most `size` of the items numbered below `items`, by size
 /// and then lexicographically. At the last one it answers false.
 pub fn next(items: u16, size: u8, t: &mut Tuple) -> bool
-    requires items_at_most { items ≤ 511 }
-    requires size_at_most { size ≤ 6 }
+    requires items_at_most { items ≤ most_items }
+    requires size_at_most { size ≤ most_size }
     requires fits { IsTuple items size t.old }
     ensures next { IsTrue result → (rank : ℕ) → slice_get (tuples items size) rank ≡ Some t.old → slice_get (tuples items size) (suc rank) ≡ Some t.new }
     ensures last { result ≡ false → (rank : ℕ) → slice_get (tuples items size) rank ≡ Some t.old → length (tuples items size) ≡ suc rank }
@@ -94,4 +121,18 @@ pub fn subset(k: u8, t: &Tuple) -> Tuple
         bits /= 2;
     }
     kept
+}
+
+/// Whether each item of `a` is one of `b`.
+pub fn is_subset(a: &Tuple, b: &Tuple) -> bool
+    ensures { IsTrue result ↔ IsSubset a.now b.now }
+{
+    let wanted = a.items();
+    let mut found = 0;
+    for item in b.items() {
+        if found < wanted.len() && wanted[found] == *item {
+            found += 1;
+        }
+    }
+    found == wanted.len()
 }
