@@ -1,7 +1,7 @@
 -- What is looked up in a list of tuples, and how the list grows.
 use Rattle.std.specs.Prelude.{◌≡◌, ◌↔◌, ◌⊎◌, ℕ, List, Contains}
 use Rattle.tuple_model.specs.Tuples.{IsBefore, IsSubset}
-use Rattle.tuple_model.specs.Antichains.{Covers}
+use Rattle.tuple_model.specs.Antichains.{Covers, Adds}
 use Rattle.antichain_list.specs.declared.antichain.Added.{Added}
 use Rattle.antichain_list.specs.declared.antichain.Added.TheVariants.{Kept, Covered}
 
@@ -10,11 +10,6 @@ pub record IsFirstSubset (list : List (List ℕ)) (t s : List ℕ) : Type 0 wher
   pub member : Contains list s
   pub subset : IsSubset s t
   pub first : (other : List ℕ) → Contains list other → IsSubset other t → (other ≡ s) ⊎ IsBefore s other
-
--- The tuple came into the list, and its supersets went.
-abbrev pub Adds : List (List ℕ) → List ℕ → List (List ℕ) → Type 0
-Adds before t after =
-    (member : List ℕ) → Contains after member ↔ ((member ≡ t) ⊎ (Contains before member × (IsSubset t member → ⊥)))
 
 -- Where the list has a subset of the tuple it stays, and the first one is named; else the tuple is added.
 abbrev pub MatchAdded : List (List ℕ) → List (List ℕ) → List ℕ → Added → Type 0

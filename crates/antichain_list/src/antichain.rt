@@ -3,7 +3,7 @@
 ghost use Rattle.std.specs.Prelude.{◌≡◌, List, [], ℕ, map, OnErr, OnOk, IfOk, IfSome, IfNone};
 ghost use Rattle.tuple_model.specs.Antichains.{Covers, IsAntichain};
 ghost use Rattle.tuple_order.specs.Codes.{code_of};
-ghost use Rattle.antichain_list.specs.Lists.{IsFirstSubset, Adds, Joins, MatchAdded};
+ghost use Rattle.antichain_list.specs.Lists.{IsFirstSubset, Joins, MatchAdded};
 
 use mask_bytes::OutOfMemory;
 use std::alloc::Global;

@@ -3,4 +3,5 @@ pub mod Ranks
 pub mod Subsets
 pub mod Picking
 pub mod Answers
+pub mod Antichains
 mod Examples

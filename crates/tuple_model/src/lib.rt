@@ -2,8 +2,10 @@
 #![tactic(auto)]
 
 ghost use Rattle.std.specs.Prelude.{◌≡◌, ◌↔◌, ◌⊎◌, ◌^◌, ◌<◌, ℕ, suc, List, [], length, AllPairs, Contains};
-ghost use Rattle.tuple_model.specs.Tuples.{IsTuple, IsRising, IsBefore, tuples, subset};
+ghost use Rattle.tuple_model.specs.Limits.{most_items, most_size};
+ghost use Rattle.tuple_model.specs.Tuples.{IsTuple, IsRising, IsBefore, IsSubset, tuples, subset};
 ghost use Rattle.tuple_model.specs.Minimal.{IsAnswer};
+ghost use Rattle.tuple_model.specs.Antichains.{Covers, IsAntichain, CoversSame, CoversFailing, Adds, CoversMore};
 
 /// What it means that a set of items fails.
 pub trait Failing {
@@ -20,7 +22,7 @@ pub fn tuples_law()
 /// tuple itself, and each lower one a smaller tuple.
 pub fn subset_law()
     ensures subsets { (items : ℕ) (s t : List ℕ) → IsRising 0 items t →
-        ((k : ℕ) × (k < 2 ^ length t) × (subset k t ≡ s)) ↔ (IsRising 0 items s × ((i : ℕ) → Contains s i → Contains t i)) }
+        ((k : ℕ) × (k < 2 ^ length t) × (subset k t ≡ s)) ↔ (IsRising 0 items s × IsSubset s t) }
     ensures whole { (k : ℕ) (t : List ℕ) → suc k ≡ 2 ^ length t → subset k t ≡ t }
     ensures proper { (k : ℕ) (t : List ℕ) → suc k < 2 ^ length t → length (subset k t) < length t }
 {}
@@ -36,4 +38,24 @@ pub fn answer_law<F: Failing>()
     ensures { (items size : ℕ) (answer : List (List ℕ)) → IsAnswer F.Fails items size answer →
         ((t : List ℕ) → IsTuple items size t → F.Fails t ⊎ (F.Fails t → ⊥)) →
         (t : List ℕ) → IsTuple items size t → F.Fails t → (k : ℕ) × (k < 2 ^ length t) × Contains answer (subset k t) }
+{}
+
+/// An antichain is determined by what it covers.
+pub fn antichain_law()
+    ensures { (one other : List (List ℕ)) → IsAntichain one → IsAntichain other → CoversSame one other → one ≡ other }
+{}
+
+/// An antichain that covers exactly the tuples with a failing subset is the answer. Failing need not be inherited by
+/// supersets, and it need not be settled for each tuple whether it fails.
+pub fn covering_law<F: Failing>()
+    ensures { (items size : ℕ) (list : List (List ℕ)) →
+        IsAntichain list → CoversFailing F.Fails items size list → IsAnswer F.Fails items size list }
+{}
+
+/// Where a tuple that the list doesn't cover comes in and its supersets go, the list in order is an antichain again,
+/// and covers what it covered and the supersets of the tuple.
+pub fn adding_law()
+    ensures antichain { (before after : List (List ℕ)) (t : List ℕ) → IsAntichain before → IsTuple most_items most_size t →
+        (Covers before t → ⊥) → Adds before t after → AllPairs IsBefore after → IsAntichain after }
+    ensures covers { (before after : List (List ℕ)) (t : List ℕ) → Adds before t after → CoversMore before t after }
 {}
