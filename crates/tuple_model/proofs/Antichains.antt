@@ -2,7 +2,7 @@
 use Rattle.std.proofs.Common.{◌≡◌, ℕ, suc, ◌+◌, ◌^◌, ◌<◌, ◌⊎◌, List, [], ◌∷◌, length, refl, ap, sym, ◌∙◌, inl, inr, arith, subst, Contains}
 use Rattle.std.specs.List.{AllPairs}
 use Rattle.std.proofs.lemmas.Bool.{cases_lt, cases_eq}
-use Rattle.std.proofs.lemmas.List.Elements.{All-contains, All-contains_itself, All-weaker}
+use Rattle.std.proofs.lemmas.List.Elements.{All-contains, All-contains_itself, All-nil, All-weaker}
 use Rattle.list_laws.proofs.Members.{Contains-cons_head, Contains-cons_tail, Contains-cons_cases, AllPairs-head, AllPairs-tail}
 use Rattle.list_laws.proofs.Once.{Contains-nil}
 use Rattle.tuple_model.specs.Limits.{most_items, most_size}
@@ -72,6 +72,16 @@ IsSubset-antisym high more s t g h has back =
           let f = ap (λ (u : List ℕ). length u) q.2 in
           absurd (omega arith)
     ]
+
+-- of two tuples, a subset is the same or comes before
+pub IsSubset-before : (high : ℕ) (s t : List ℕ) → IsRising 0 high s → IsRising 0 high t → IsSubset s t → (s ≡ t) ⊎ IsBefore s t
+IsSubset-before high s t g h has = elim (proper_or_equal high s t g h has) [
+  | inl e ↦ inl e
+  | inr r ↦
+      let smaller = subset-proper r.0 t r.1 in
+      let e = ap (λ (u : List ℕ). length u) r.2 in
+      inr (inl (omega arith))
+]
 
 ComesFirst-asym : (s t : List ℕ) → ComesFirst s t → ComesFirst t s → ⊥
 ComesFirst-asym [] t h k = h
@@ -168,12 +178,20 @@ ordered-same (x ∷ xs) (y ∷ ys) o p h k =
 pub IsRising-from_antichain : (list : List (List ℕ)) (t : List ℕ) → IsAntichain list → Contains list t → IsRising 0 most_items t
 IsRising-from_antichain list t a k = (All-contains (IsTuple most_items most_size) list t a.tuples k).rising
 
+-- the empty list
+pub IsAntichain-nil : IsAntichain []
+IsAntichain-nil = record {
+  tuples = All-nil (IsTuple most_items most_size);
+  ordered = λ i j d l m. absurd (omega (arith, m));
+  apart = λ s t k. absurd (Contains-nil s k);
+}
+
 -- a list covers its members
 pub Covers-member : (list : List (List ℕ)) (t : List ℕ) → Contains list t → Covers list t
 Covers-member list t k = (t, k, λ item l. l)
 
 -- a member of an antichain that has a covered subset is that subset
-member-covered : (list : List (List ℕ)) (high : ℕ) (s t : List ℕ) → IsAntichain list → IsRising 0 high s → Contains list t → IsSubset s t → Covers list s → s ≡ t
+pub member-covered : (list : List (List ℕ)) (high : ℕ) (s t : List ℕ) → IsAntichain list → IsRising 0 high s → Contains list t → IsSubset s t → Covers list s → s ≡ t
 member-covered list high s t a g k has c =
     let e : c.0 ≡ t = a.apart c.0 t c.1 k (IsSubset-trans c.0 s t c.2 has) in
     let P : List ℕ → Type 0 = λ u. IsSubset u s in

@@ -1,10 +1,12 @@
 -- What is picked from a list: there is one such list, it has exactly the elements that the fact holds of, and it grows with the list.
 use Rattle.std.proofs.Common.{◌≡◌, ℕ, ◌+◌, List, [], ◌∷◌, ◌++◌, take, Some, refl, ap, sym, ◌∙◌, inl, inr, arith, subst, append-nil, Contains}
-use Rattle.std.specs.List.{slice_get}
+use Rattle.std.specs.List.{AllPairs, slice_get}
 use Rattle.std.proofs.lemmas.List.{take_more}
 use Rattle.std.proofs.lemmas.Option.{slice_get_within, get_or_from_slice_get}
+use Rattle.std.proofs.lemmas.List.Elements.{All-contains, All-contains_itself, All-weaker}
+use Rattle.std.proofs.lemmas.List.Kept.{AllPairs-cons}
 use Rattle.tuple_model.specs.Minimal.{Picks}
-use Rattle.list_laws.proofs.Members.{Contains-cons_head, Contains-cons_tail, Contains-cons_cases}
+use Rattle.list_laws.proofs.Members.{Contains-cons_head, Contains-cons_tail, Contains-cons_cases, AllPairs-head, AllPairs-tail}
 
 pub Picks-unique : {X : Type 0} (P : X → Type 0) (xs a b : List X) → Picks P xs a → Picks P xs b → a ≡ b
 Picks-unique P [] a b h k = h ∙ sym k
@@ -66,3 +68,13 @@ member-from_picked {X} P (y ∷ xs) picked x (inl h) k =
       | inr l ↦ let r = member-from_picked P xs h.1 x h.3 l in (Contains-cons_tail y xs x r.0, r.1)
     ]
 member-from_picked P (y ∷ xs) picked x (inr h) k = let r = member-from_picked P xs picked x h.1 k in (Contains-cons_tail y xs x r.0, r.1)
+
+-- what is picked from a list in order is in order
+pub AllPairs-picked : {X : Type 0} (R : X → X → Type 0) (P : X → Type 0) (xs picked : List X) → Picks P xs picked → AllPairs R xs → AllPairs R picked
+AllPairs-picked {X} R P [] picked h o = let Q : List X → Type 0 = λ r. AllPairs R r in subst Q (sym h) o
+AllPairs-picked {X} R P (y ∷ xs) picked (inl h) o =
+    let Q : List X → Type 0 = λ r. AllPairs R r in
+    subst Q (sym h.2) (AllPairs-cons R y h.1
+    (All-weaker (Contains h.1) (R y) (λ x k. All-contains (R y) xs x (AllPairs-head R y xs o) (member-from_picked P xs h.1 x h.3 k).0) h.1 (All-contains_itself h.1))
+    (AllPairs-picked R P xs h.1 h.3 (AllPairs-tail R y xs o)))
+AllPairs-picked R P (y ∷ xs) picked (inr h) o = AllPairs-picked R P xs picked h.1 (AllPairs-tail R y xs o)
