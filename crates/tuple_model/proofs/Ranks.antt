@@ -1,5 +1,5 @@
 -- The rank of a tuple, its place in the list of all: each tuple has one, and of two tuples the one that comes before has the lower.
-use Rattle.std.proofs.Common.{◌≡◌, ℕ, zero, suc, ◌+◌, ◌<◌, ◌⊎◌, List, [], ◌∷◌, ◌++◌, length, Some, refl, ap, sym, ◌∙◌, inl, inr, arith, subst, Contains, get_or}
+use Rattle.std.proofs.Common.{◌≡◌, ℕ, zero, suc, ◌+◌, ◌-◌, ◌<◌, ◌≤◌, ◌⊎◌, List, [], ◌∷◌, ◌++◌, length, Some, refl, ap, sym, ◌∙◌, inl, inr, arith, subst, Contains, get_or}
 use Rattle.std.specs.List.{slice_get}
 use Rattle.std.proofs.lemmas.Bool.{cases_lt}
 use Rattle.std.proofs.lemmas.Option.{slice_get_within, get_or_from_slice_get, slice_get_read, slice_get-get_or}
@@ -27,6 +27,20 @@ pub IsBefore-irreflexive : (t : List ℕ) → IsBefore t t → ⊥
 IsBefore-irreflexive t (inl l) = omega arith
 IsBefore-irreflexive t (inr h) = ComesFirst-irreflexive t h.1
 
+ComesFirst-asymmetric : (s t : List ℕ) → ComesFirst s t → ComesFirst t s → ⊥
+ComesFirst-asymmetric [] t h k = h
+ComesFirst-asymmetric (x ∷ s) [] h k = h
+ComesFirst-asymmetric (x ∷ s) (y ∷ t) (inl l) (inl m) = omega arith
+ComesFirst-asymmetric (x ∷ s) (y ∷ t) (inl l) (inr k) = let e = k.0 in omega arith
+ComesFirst-asymmetric (x ∷ s) (y ∷ t) (inr h) (inl m) = let e = h.0 in omega arith
+ComesFirst-asymmetric (x ∷ s) (y ∷ t) (inr h) (inr k) = ComesFirst-asymmetric s t h.1 k.1
+
+pub IsBefore-asymmetric : (s t : List ℕ) → IsBefore s t → IsBefore t s → ⊥
+IsBefore-asymmetric s t (inl l) (inl m) = omega arith
+IsBefore-asymmetric s t (inl l) (inr k) = let e = k.0 in omega arith
+IsBefore-asymmetric s t (inr h) (inl m) = let e = h.0 in omega arith
+IsBefore-asymmetric s t (inr h) (inr k) = ComesFirst-asymmetric s t h.1 k.1
+
 -- tuples are ordered as their ranks
 pub IsBefore-from_ranks : (items size i j : ℕ) (s t : List ℕ) → slice_get (tuples items size) i ≡ Some s → slice_get (tuples items size) j ≡ Some t →
     i < j → IsBefore s t
@@ -42,6 +56,19 @@ rank-unique items size i j t e f = elim (cases_lt i j) [
   | inr most ↦ elim (cases_lt j i) [
     | inl less ↦ absurd (IsBefore-irreflexive t (IsBefore-from_ranks items size j i t t f e less))
     | inr more ↦ omega arith
+  ]
+]
+
+pub ranks-from_IsBefore : (items size i j : ℕ) (s t : List ℕ) → slice_get (tuples items size) i ≡ Some s → slice_get (tuples items size) j ≡ Some t →
+    IsBefore s t → i < j
+ranks-from_IsBefore items size i j s t e f h = elim (cases_lt i j) [
+  | inl less ↦ less
+  | inr most ↦ elim (cases_lt j i) [
+    | inl less ↦ absurd (IsBefore-asymmetric s t h (IsBefore-from_ranks items size j i t s f e less))
+    | inr more ↦
+        let same : i ≡ j = omega arith in
+        let equal : s ≡ t = cc in
+        absurd (IsBefore-irreflexive t (subst (λ (u : List ℕ). IsBefore u t) equal h))
   ]
 ]
 
@@ -101,3 +128,13 @@ IsTuple-from_low_rank items size more rank t l e =
     let k : slice_get (tuples items (more + size)) rank ≡ Some u = rank-larger_size items size more rank u h in
     let same : u ≡ t = cc in
     subst (IsTuple items size) same (IsTuple-from_rank items size rank u h)
+
+pub short-from_low_rank : (items size fewer rank : ℕ) (t : List ℕ) → slice_get (tuples items size) rank ≡ Some t → rank < length (tuples items fewer) →
+    length t ≤ fewer
+short-from_low_rank items size fewer rank t e l = elim (cases_lt size fewer) [
+  | inl less ↦ let h = IsTuple-from_rank items size rank t e in omega (arith, h.short)
+  | inr most ↦
+      let z : size ≡ size - fewer + fewer = omega arith in
+      let P : ℕ → Type 0 = λ n. slice_get (tuples items n) rank ≡ Some t in
+      (IsTuple-from_low_rank items fewer (size - fewer) rank t l (subst P z e)).short
+]

@@ -108,6 +108,37 @@ subset-from_members low high (a ∷ t) (x ∷ s) g h has =
           )
     ]
 
+-- what keeps the first item is nothing that leaves it out
+first_kept : (a high : ℕ) (s t u : List ℕ) → IsRising (suc a) high u → (s ≡ a ∷ t) → (s ≡ u) → ⊥
+first_kept a high s t u h e f =
+    let P : List ℕ → Type 0 = λ v. Contains v a in
+    let c : Contains u a = subst P f (subst P (sym e) (Contains-cons_head a t)) in
+    let r = IsRising-member (suc a) high u a h c in
+    omega arith
+
+-- each subset has one number
+pub subset-number : (low high j k : ℕ) (t : List ℕ) → IsRising low high t → j < 2 ^ length t → k < 2 ^ length t → subset j t ≡ subset k t → j ≡ k
+subset-number low high j k [] h l m e = omega arith
+subset-number low high j k (a ∷ t) h l m e =
+    let p = pow-suc 2 (length t) in
+    let rest : subset (j / 2) t ≡ subset (k / 2) t → j / 2 ≡ k / 2 = subset-number (suc a) high (j / 2) (k / 2) t h.2 (omega arith) (omega arith) in
+    elim (even_or_odd j) [
+      | inl even ↦ elim (even_or_odd k) [
+        | inl other ↦ let i = rest (sym (subset-even j a t even) ∙ e ∙ subset-even k a t other) in omega arith
+        | inr other ↦ absurd (first_kept a high (subset k (a ∷ t)) (subset (k / 2) t) (subset (j / 2) t) (IsRising-subset (j / 2) (suc a) high t h.2)
+            (subset-odd k a t other) (sym e ∙ subset-even j a t even))
+      ]
+      | inr odd ↦ elim (even_or_odd k) [
+        | inl other ↦ absurd (first_kept a high (subset j (a ∷ t)) (subset (j / 2) t) (subset (k / 2) t) (IsRising-subset (k / 2) (suc a) high t h.2)
+            (subset-odd j a t odd) (e ∙ subset-even k a t other))
+        | inr other ↦
+            let same : a ∷ subset (j / 2) t ≡ a ∷ subset (k / 2) t = sym (subset-odd j a t odd) ∙ e ∙ subset-odd k a t other in
+            let tails : subset (j / 2) t ≡ subset (k / 2) t = cc in
+            let i = rest tails in
+            omega arith
+      ]
+    ]
+
 -- a subset of a subset of a tuple is a subset of it
 pub subset-subset : (low high j k : ℕ) (t : List ℕ) → IsRising low high t → (m : ℕ) × (m < 2 ^ length t) × (subset m t ≡ subset j (subset k t))
 subset-subset low high j k t h =

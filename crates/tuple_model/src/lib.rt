@@ -1,7 +1,7 @@
 //! Sets of items, their order, and the minimal ones among those that fail: definitions and their laws.
 #![tactic(auto)]
 
-ghost use Rattle.std.specs.Prelude.{◌≡◌, ◌↔◌, ◌⊎◌, ◌^◌, ◌<◌, ℕ, suc, List, [], length, AllPairs, Contains};
+ghost use Rattle.std.specs.Prelude.{◌≡◌, ◌↔◌, ◌⊎◌, ◌^◌, ◌<◌, ◌≤◌, ℕ, suc, List, [], Some, length, slice_get, AllPairs, Contains};
 ghost use Rattle.tuple_model.specs.Limits.{most_items, most_size};
 ghost use Rattle.tuple_model.specs.Tuples.{IsTuple, IsRising, IsBefore, IsSubset, tuples, subset};
 ghost use Rattle.tuple_model.specs.Minimal.{IsAnswer};
@@ -18,11 +18,24 @@ pub fn tuples_law()
     ensures ordered { (items size : ℕ) → AllPairs IsBefore (tuples items size) }
 {}
 
-/// The subsets of a tuple by number are the tuples all of whose items it has; the last number gives the
+/// A tuple has one rank, its place in the list of all, and tuples are ordered as their ranks. A rank below the number of
+/// tuples of at most so many items is that of a tuple of at most so many.
+pub fn rank_law()
+    ensures once { (items size i j : ℕ) (t : List ℕ) →
+        slice_get (tuples items size) i ≡ Some t → slice_get (tuples items size) j ≡ Some t → i ≡ j }
+    ensures ordered { (items size i j : ℕ) (s t : List ℕ) →
+        slice_get (tuples items size) i ≡ Some s → slice_get (tuples items size) j ≡ Some t → IsBefore s t ↔ i < j }
+    ensures short { (items size most rank : ℕ) (t : List ℕ) →
+        slice_get (tuples items size) rank ≡ Some t → rank < length (tuples items most) → length t ≤ most }
+{}
+
+/// The subsets of a tuple by number are the tuples all of whose items it has, each once; the last number gives the
 /// tuple itself, and each lower one a smaller tuple.
 pub fn subset_law()
     ensures subsets { (items : ℕ) (s t : List ℕ) → IsRising 0 items t →
         ((k : ℕ) × (k < 2 ^ length t) × (subset k t ≡ s)) ↔ (IsRising 0 items s × IsSubset s t) }
+    ensures once { (items j k : ℕ) (t : List ℕ) → IsRising 0 items t →
+        j < 2 ^ length t → k < 2 ^ length t → subset j t ≡ subset k t → j ≡ k }
     ensures whole { (k : ℕ) (t : List ℕ) → suc k ≡ 2 ^ length t → subset k t ≡ t }
     ensures proper { (k : ℕ) (t : List ℕ) → suc k < 2 ^ length t → length (subset k t) < length t }
 {}

@@ -1,4 +1,4 @@
-use Rattle.tuple_model.proofs.Subsets.{subset-from_members, subset-whole, subset-proper, IsRising-subset, member-from_subset}
+use Rattle.tuple_model.proofs.Subsets.{subset-from_members, subset-whole, subset-proper, subset-number, IsRising-subset, member-from_subset}
 use Rattle.std.proofs.Common.{◌≡◌, ℕ, ◌^◌, ◌<◌, List, length, subst, Contains}
 use Rattle.tuple_model.specs.Tuples.{IsRising, subset}
 use Rattle.tuple_model.proofs.subset_law.Goals as goal
@@ -17,3 +17,6 @@ returns-clause-whole c = subset-whole
 
 pub returns-clause-proper : goal.returns-clause-proper
 returns-clause-proper c = subset-proper
+
+pub returns-clause-once : goal.returns-clause-once
+returns-clause-once c = λ items. subset-number 0 items
