@@ -1,20 +1,20 @@
 -- A valid check completes, unless reading, writing or memory fails.
-use Rattle.std.proofs.Common.{◌≡◌, ℕ, ◌≤◌, List, length, Option, Some, Ok, Err, subst, sym, arith, refl}
-use Rattle.std.specs.Prelude.{Result, IfSome}
-use Rattle.mask_bytes.specs.Counts.{Rose}
+use Rattle.std.proofs.Common.{◌≡◌, ℕ, ◌≤◌, List, length, Option, Some, Ok, Err, subst, sym, arith, refl, inl, inr}
+use Rattle.std.specs.Prelude.{◌≢◌, Result, IfSome}
 use Rattle.mask_bytes.specs.Flow.{IsLonger}
 use Rattle.gadget_model.specs.Circuit.{Circuit}
 use Rattle.gadget_model.specs.Classes.{IsInClass, Fault, too_wide, random_product, degree, IsFirstFault}
+use Rattle.gadget_headers.specs.declared.file_error.FileError.{FileError}
 use Rattle.gadget_tree.specs.File.{FileSays}
 use Rattle.gadget_tree.proofs.OneReading.{one_reading}
-use Rattle.wire_table.specs.Refusals.{Refuses as refuses_table}
+use Rattle.wire_table.specs.Refusals.{Refuses}
 use Rattle.wire_table.specs.declared.wire_error.WireError.{WireError}
 use Rattle.wire_table.specs.declared.wire_error.WireError.TheVariants as wires
 use Rattle.mask_check.specs.declared.status.Status.{Status}
 use Rattle.mask_check.specs.declared.status.Status.TheVariants as statuses
+use Rattle.mask_check.specs.Limits.{most_file_bytes}
 use Rattle.mask_check.specs.Words.{words_ask}
-use Rattle.mask_check.specs.Check.{IsVerdictIfMemoryLasts, ReadsUnfit}
-use Rattle.mask_check.specs.Refusals.{Run, Refuses}
+use Rattle.mask_check.specs.Ends.{Run, ReadsAll, Ends, IsValid, IsVerdictIfMemoryLasts}
 
 ok_err : {A B : Type 0} (a : A) (b : B) (r : Result A B) → r ≡ Ok a → r ≡ Err b → ⊥
 ok_err a b r e f = cc
@@ -28,39 +28,33 @@ no_fault g v too_wide fit first = (fit v first.exists).0 first.has
 no_fault g v random_product fit first = (fit v first.exists).1 first.has.1
 no_fault g v degree fit first = (fit v first.exists).2 first.has.2
 
-no_refusal : (g : Circuit) (error : WireError) → IsInClass g → (error ≡ wires.OutOfMemory → ⊥) → refuses_table g error → ⊥
-no_refusal g (wires.TooWide var line) fit not_memory h = no_fault g var too_wide fit h.0
-no_refusal g (wires.RandomProduct var line) fit not_memory h = no_fault g var random_product fit h.0
-no_refusal g (wires.Degree var line) fit not_memory h = no_fault g var degree fit h.0
-no_refusal g wires.OutOfMemory fit not_memory h = not_memory refl
+no_refusal : (g : Circuit) (error : WireError) → IsInClass g → error ≢ wires.OutOfMemory → Refuses g error → ⊥
+no_refusal g (wires.TooWide var line) fit other h = no_fault g var too_wide fit h.0
+no_refusal g (wires.RandomProduct var line) fit other h = no_fault g var random_product fit h.0
+no_refusal g (wires.Degree var line) fit other h = no_fault g var degree fit h.0
+no_refusal g wires.OutOfMemory fit other h = other refl
 
-module _ {S K : Type 0} (words : List (List ℕ)) (run : Run S K) (t : ℕ) (bytes : List ℕ) (g : Circuit) (asked : words_ask words ≡ Ok t)
-    (told : run.left run.source ≡ Some bytes) (few : length bytes ≤ 1048576) (valid : FileSays bytes (Ok g)) (fit : IsInClass g)
-    (reads : Rose (run.read_faults run.source) (run.read_faults run.source_after) → ⊥)
-    (writes : Rose (run.write_faults run.sink) (run.write_faults run.sink_after) → ⊥) where
-  -- the gadget that is refused is this one, which isn't
-  not_unfit : (error : WireError) → (error ≡ wires.OutOfMemory → ⊥) → ReadsUnfit (run.left run.source) (run.left run.source_after) error → ⊥
-  not_unfit error not_memory h =
-      let P : Option (List ℕ) → Type 0 = λ o. IfSome o (λ bs. (length bs ≤ 1048576) × (g' : Circuit) × FileSays bs (Ok g') × refuses_table g' error) in
-      let found = subst P told h.1 in
-      let same : g ≡ found.1 = ok_ok g found.1 (Ok g) refl (one_reading bytes (Ok g) (Ok found.1) valid found.2) in
-      no_refusal g error fit not_memory (subst (λ c. refuses_table c error) (sym same) found.3)
+module _ {S K : Type 0} (words : List (List ℕ)) (run : Run S K) (valid : IsValid words run) where
+  -- what is said of the file that was read is that it is the gadget's
+  same : (read : List ℕ) (r : Result Circuit FileError) → ReadsAll run read → FileSays read r → Ok valid.gadget ≡ r
+  same read r reads says =
+      let is : read ≡ valid.bytes = subst (λ (o : Option (List ℕ)). IfSome o (λ left. read ≡ left)) valid.told reads.whole in
+      one_reading valid.bytes (Ok valid.gadget) r valid.accepted.file (subst (λ (bytes : List ℕ). FileSays bytes r) is says)
 
-  pub IsVerdictIfMemoryLasts-from_refusal : (status : Status) → Refuses words run status → IsVerdictIfMemoryLasts status
-  IsVerdictIfMemoryLasts-from_refusal statuses.Yes h = absurd h
-  IsVerdictIfMemoryLasts-from_refusal statuses.No h = absurd h
-  IsVerdictIfMemoryLasts-from_refusal (statuses.Usage kind) h = absurd (ok_err t kind (words_ask words) asked h.0)
-  IsVerdictIfMemoryLasts-from_refusal (statuses.File error) h =
-      let P : Option (List ℕ) → Type 0 = λ o. IfSome o (λ bs. (length bs ≤ 1048576) × FileSays bs (Err error)) in
-      absurd (ok_err g error (Ok g) refl (one_reading bytes (Ok g) (Err error) valid ((subst P told h.2.2).1)))
-  IsVerdictIfMemoryLasts-from_refusal (statuses.Wires (wires.TooWide var line)) h = absurd (not_unfit (wires.TooWide var line) (λ e. absurd (cc)) h.2)
-  IsVerdictIfMemoryLasts-from_refusal (statuses.Wires (wires.RandomProduct var line)) h = absurd (not_unfit (wires.RandomProduct var line) (λ e. absurd (cc)) h.2)
-  IsVerdictIfMemoryLasts-from_refusal (statuses.Wires (wires.Degree var line)) h = absurd (not_unfit (wires.Degree var line) (λ e. absurd (cc)) h.2)
-  IsVerdictIfMemoryLasts-from_refusal (statuses.Wires wires.OutOfMemory) h = absurd h.2
-  IsVerdictIfMemoryLasts-from_refusal statuses.TooLong h =
-      let P : Option (List ℕ) → Type 0 = λ o. IsLonger o 1048576 in
-      let longer = subst P told h.2 in
+  pub IsVerdictIfMemoryLasts-from_ends : (status : Status) → Ends words run status → IsVerdictIfMemoryLasts status
+  IsVerdictIfMemoryLasts-from_ends statuses.Yes h = inl refl
+  IsVerdictIfMemoryLasts-from_ends statuses.No h = inr (inl refl)
+  IsVerdictIfMemoryLasts-from_ends (statuses.Usage kind) h = absurd (ok_err valid.t kind (words_ask words) valid.accepted.asked h.0)
+  IsVerdictIfMemoryLasts-from_ends (statuses.File error) h =
+      absurd (ok_err valid.gadget error (Ok valid.gadget) refl (same h.2.0 (Err error) h.2.1 h.2.2))
+  IsVerdictIfMemoryLasts-from_ends (statuses.Wires error) h =
+      let g = h.2.1 in
+      let is = ok_ok valid.gadget g (Ok valid.gadget) refl (same h.2.0 (Ok g) h.2.2 h.2.3) in
+      absurd (no_refusal g error (subst IsInClass is valid.accepted.in_class) h.1 h.2.4)
+  IsVerdictIfMemoryLasts-from_ends statuses.TooLong h =
+      let longer = subst (λ (o : Option (List ℕ)). IsLonger o most_file_bytes) valid.told h.1 in
+      let few = valid.few in
       absurd (omega arith)
-  IsVerdictIfMemoryLasts-from_refusal statuses.ReadFault h = absurd (reads h.2)
-  IsVerdictIfMemoryLasts-from_refusal statuses.WriteFault h = absurd (writes h.0)
-  IsVerdictIfMemoryLasts-from_refusal statuses.OutOfMemory h = tt
+  IsVerdictIfMemoryLasts-from_ends statuses.ReadFault h = absurd (valid.reads h.1)
+  IsVerdictIfMemoryLasts-from_ends statuses.WriteFault h = absurd (valid.writes h.0)
+  IsVerdictIfMemoryLasts-from_ends statuses.OutOfMemory h = inr (inr refl)

@@ -12,7 +12,7 @@ use Rattle.tuple_model.proofs.Rising.{IsRising-member}
 use Rattle.notions.specs.Ni.{Query, Fails}
 use Rattle.mask_check.specs.Queries.{failing, Settles}
 use Rattle.mask_check.specs.Report.{report}
-use Rattle.mask_check.specs.Check.{Answers}
+use Rattle.mask_check.specs.Ends.{Answers}
 
 -- nothing is a member of the empty list
 nothing_in : (xs : List (List ℕ)) (x : List ℕ) → xs ≡ [] → Contains xs x → ⊥

@@ -1,7 +1,7 @@
+pub mod Limits
 pub mod Report
 pub mod Texts
 pub mod Words
 pub mod Queries
-pub mod Check
+pub mod Ends
 pub mod Causes
-pub mod Refusals

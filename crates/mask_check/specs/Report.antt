@@ -13,12 +13,14 @@ check_line t = codes "check ni " ++ decimal t ++ newline
 -- the gadget that was checked
 unfoldable pub gadget_line : Circuit → List ℕ
 gadget_line g =
-    codes "gadget shares " ++ decimal g.shares ++ codes " inputs " ++ decimal (length g.inputs) ++ codes " outputs " ++ decimal (length g.outputs)
-    ++ codes " randoms " ++ decimal g.randoms ++ codes " variables " ++ decimal (length g.variables) ++ newline
+    codes "gadget shares " ++ decimal g.shares ++ codes " inputs " ++ decimal (length g.inputs)
+    ++ codes " outputs " ++ decimal (length g.outputs) ++ codes " randoms " ++ decimal g.randoms
+    ++ codes " variables " ++ decimal (length g.variables) ++ newline
 
 -- how many items there are, of how many of them a set has at most, and how many sets there are
 unfoldable pub space_line : ℕ → ℕ → ℕ → List ℕ
-space_line items size sets = codes "space items " ++ decimal items ++ codes " size " ++ decimal size ++ codes " tuples " ++ decimal sets ++ newline
+space_line items size sets =
+    codes "space items " ++ decimal items ++ codes " size " ++ decimal size ++ codes " tuples " ++ decimal sets ++ newline
 
 -- The head: the check, the gadget, and the sets of probes on its variables that are asked about.
 abbrev pub head : Circuit → ℕ → ℕ → List ℕ

@@ -1,4 +1,5 @@
--- What the caller of the program sees of a status: a line of text, which begins with the program's name, and an exit status.
+-- What the caller of the program sees of a status: a line of text, which begins with the program's name, and an exit
+-- status.
 use Rattle.std.specs.Prelude.{ℕ, List, [], ◌++◌, codes, decimal}
 use Rattle.gadget_text.specs.declared.token.Header.{Header}
 use Rattle.gadget_text.specs.declared.token.Header.TheVariants as header
@@ -12,20 +13,25 @@ use Rattle.mask_check.specs.declared.status.UsageKind.{UsageKind}
 use Rattle.mask_check.specs.declared.status.UsageKind.TheVariants.{Words, Task, Argument}
 use Rattle.mask_check.specs.declared.status.Status.{Status}
 use Rattle.mask_check.specs.declared.status.Status.TheVariants.{Yes, No, Usage, File, Wires, TooLong, ReadFault, WriteFault, OutOfMemory}
+use Rattle.mask_check.specs.declared.texts.StatusRow.{StatusRow}
+
+-- a row of the table: an exit status and a text, which has no line feed
+abbrev pub row : ℕ → List ℕ → StatusRow
+row exit text = record { exit = exit; text = text }
+
+-- a refusal that speaks of a line of the file
+abbrev pub line_row : ℕ → List ℕ → StatusRow
+line_row line offence = row 3 (codes "mask: line " ++ decimal line ++ codes ": " ++ offence)
+
+-- the same wherever memory ran out
+abbrev pub memory_row : StatusRow
+memory_row = row 8 (codes "mask: out of memory")
 
 -- what is wrong with the command line
 abbrev pub usage_text : UsageKind → List ℕ
 usage_text Words = codes "mask: usage: mask TASK ARG [options]"
 usage_text Task = codes "mask: unknown task"
 usage_text Argument = codes "mask: bad argument"
-
--- the same wherever memory ran out
-abbrev pub out_of_memory_text : List ℕ
-out_of_memory_text = codes "mask: out of memory"
-
--- what is amiss with a line
-abbrev pub line_text : ℕ → List ℕ → List ℕ
-line_text line offence = codes "mask: line " ++ decimal line ++ codes ": " ++ offence
 
 -- a header, as a file writes it
 abbrev pub header_text : Header → List ℕ
@@ -45,56 +51,35 @@ what_text what.Nesting = codes "parentheses"
 what_text what.Variables = codes "variables"
 
 -- why the file is refused
-abbrev pub file_text : FileError → List ℕ
-file_text (file_error.NotText line) = line_text line (codes "not text")
-file_text (file_error.Syntax line) = line_text line (codes "syntax")
-file_text (file_error.HeaderTwice line) = line_text line (codes "header twice")
-file_text (file_error.HeaderMissing missing) = codes "mask: no " ++ header_text missing ++ codes " line"
-file_text (file_error.BadNumber line) = line_text line (codes "bad number")
-file_text (file_error.BadName line) = line_text line (codes "bad name")
-file_text (file_error.NameTwice line) = line_text line (codes "name twice")
-file_text (file_error.Unknown line) = line_text line (codes "unknown name")
-file_text (file_error.OutputMissing output index) = codes "mask: output " ++ decimal output ++ codes " share " ++ decimal index ++ codes " is not assigned"
-file_text (file_error.TooMany things) = codes "mask: too many " ++ what_text things
-file_text file_error.OutOfMemory = out_of_memory_text
+abbrev pub file_row : FileError → StatusRow
+file_row (file_error.NotText line) = line_row line (codes "not text")
+file_row (file_error.Syntax line) = line_row line (codes "syntax")
+file_row (file_error.HeaderTwice line) = line_row line (codes "header twice")
+file_row (file_error.HeaderMissing missing) = row 3 (codes "mask: no " ++ header_text missing ++ codes " line")
+file_row (file_error.BadNumber line) = line_row line (codes "bad number")
+file_row (file_error.BadName line) = line_row line (codes "bad name")
+file_row (file_error.NameTwice line) = line_row line (codes "name twice")
+file_row (file_error.Unknown line) = line_row line (codes "unknown name")
+file_row (file_error.OutputMissing output index) = row 3
+    (codes "mask: output " ++ decimal output ++ codes " share " ++ decimal index ++ codes " is not assigned")
+file_row (file_error.TooMany things) = row 3 (codes "mask: too many " ++ what_text things)
+file_row file_error.OutOfMemory = memory_row
 
--- why the gadget is refused, with the number of the line of its first variable outside the class
-abbrev pub wires_text : WireError → List ℕ
-wires_text (wire_error.TooWide var line) = line_text line (codes "too many monomials")
-wires_text (wire_error.RandomProduct var line) = line_text line (codes "random in a product")
-wires_text (wire_error.Degree var line) = line_text line (codes "degree above 2")
-wires_text wire_error.OutOfMemory = out_of_memory_text
+-- why the gadget is refused, with the line of its first variable outside the class
+abbrev pub wires_row : WireError → StatusRow
+wires_row (wire_error.TooWide var line) = line_row line (codes "too many monomials")
+wires_row (wire_error.RandomProduct var line) = line_row line (codes "random in a product")
+wires_row (wire_error.Degree var line) = line_row line (codes "degree above 2")
+wires_row wire_error.OutOfMemory = memory_row
 
--- The text of a status says why there is no report, and is empty where there is one. It has no line feed.
-abbrev pub text_of : Status → List ℕ
-text_of Yes = []
-text_of No = []
-text_of (Usage kind) = usage_text kind
-text_of (File error) = file_text error
-text_of (Wires error) = wires_text error
-text_of TooLong = codes "mask: file too long"
-text_of ReadFault = codes "mask: read failed"
-text_of WriteFault = codes "mask: write failed"
-text_of OutOfMemory = out_of_memory_text
-
--- A file that is refused gives 3; where memory ran out while it was read, the exit status is 8, as elsewhere.
-abbrev pub file_exit : FileError → ℕ
-file_exit file_error.OutOfMemory = 8
-file_exit error = 3
-
--- A gadget that is refused gives 3, as a file.
-abbrev pub wires_exit : WireError → ℕ
-wires_exit wire_error.OutOfMemory = 8
-wires_exit error = 3
-
--- The exit status: 0 for the verdict yes, 1 for no, 2 for the command line, 3 for the file and its gadget, 6 for a read, 7 for a write, 8 for memory.
-abbrev pub exit_of : Status → ℕ
-exit_of Yes = 0
-exit_of No = 1
-exit_of (Usage kind) = 2
-exit_of (File error) = file_exit error
-exit_of (Wires error) = wires_exit error
-exit_of TooLong = 3
-exit_of ReadFault = 6
-exit_of WriteFault = 7
-exit_of OutOfMemory = 8
+-- The table of the statuses. The text says why there is no report, and is empty where there is one.
+abbrev pub row_of : Status → StatusRow
+row_of Yes = row 0 []
+row_of No = row 1 []
+row_of (Usage kind) = row 2 (usage_text kind)
+row_of (File error) = file_row error
+row_of (Wires error) = wires_row error
+row_of TooLong = row 3 (codes "mask: file too long")
+row_of ReadFault = row 6 (codes "mask: read failed")
+row_of WriteFault = row 7 (codes "mask: write failed")
+row_of OutOfMemory = memory_row

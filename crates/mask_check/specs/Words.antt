@@ -7,9 +7,12 @@ use Rattle.mask_check.specs.declared.status.UsageKind.TheVariants.{Words, Task, 
 -- an order that is supported
 abbrev pub order_of : List ℕ → Result ℕ UsageKind
 order_of word =
-    if bytes_eq word (codes "0") then Ok 0 else if bytes_eq word (codes "1") then Ok 1 else if bytes_eq word (codes "2") then Ok 2 else Err Argument
+    if bytes_eq word (codes "0") then Ok 0
+    else if bytes_eq word (codes "1") then Ok 1
+    else if bytes_eq word (codes "2") then Ok 2
+    else Err Argument
 
--- The words are the program's name, the task `ni` and its order; otherwise the first of these that is amiss.
+-- The words are the program's name, the task `ni` and its order; otherwise the first of these that is wrong.
 abbrev pub words_ask : List (List ℕ) → Result ℕ UsageKind
 words_ask [] = Err Words
 words_ask (name ∷ []) = Err Words

@@ -2,7 +2,7 @@
 
 ghost use Rattle.std.specs.Prelude.{◌≤◌, IfOk};
 ghost use Rattle.wire_table.specs.Tables.{StandsFor};
-ghost use Rattle.mask_check.specs.Check.{Answers};
+ghost use Rattle.mask_check.specs.Ends.{Answers};
 
 use crate::minimal::minimal_failing;
 use crate::report::report;

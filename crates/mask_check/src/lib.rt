@@ -2,13 +2,13 @@
 #![tactic(auto)]
 
 mod answer;
-pub mod line;
+mod line;
 mod minimal;
 mod report;
 mod run;
-pub mod status;
+mod status;
 mod texts;
-pub mod words;
+mod words;
 
 pub use line::Line;
 pub use run::{check, no_fault_law};

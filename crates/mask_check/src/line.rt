@@ -1,24 +1,26 @@
 //! A short text in place, so that a message can be put together where memory ran out.
 
-ghost use Rattle.std.specs.Prelude.{◌≡◌, ℕ, ◌+◌, ◌≤◌, [], ◌++◌, length};
+ghost use Rattle.std.specs.Prelude.{◌≡◌, ◌+◌, ◌≤◌, [], ◌++◌, length};
+ghost use Rattle.mask_check.specs.Limits.{most_line_bytes};
 
+use arrayvec::ArrayString;
 use std::marker::Model;
+
+/// How many bytes a line may have.
+const LINE_LIMIT: usize = 120;
 
 /// A text of at most 120 bytes, which takes no memory beyond its own. Contracts see its bytes.
 #[derive(Debug, Drop)]
 pub struct Line {
-    buffer: [u8; 120],
-    used: usize,
+    text: ArrayString<LINE_LIMIT>,
 }
 
 impl Model for Line {
-    ghost use Rattle.std.specs.Prelude.{List, ℕ, ◌≤◌, take};
+    ghost use Rattle.std.specs.Prelude.{List, ℕ};
 
     ghost Value = { List ℕ };
 
-    ghost view = { λ l. take l.used l.buffer };
-
-    ghost invariant = { λ l. l.used ≤ 120 };
+    ghost view = { λ l. l.text.bytes };
 }
 
 impl Line {
@@ -27,35 +29,23 @@ impl Line {
         ensures { result ≡ [] }
     {
         Line {
-            buffer: [0; 120],
-            used: 0,
+            text: ArrayString::new(),
         }
     }
 
     /// The bytes of the text.
     pub fn bytes(&self) -> &[u8]
         ensures same { result.now ≡ self.now }
-        ensures short { length result.now ≤ 120 }
+        ensures short { length result.now ≤ most_line_bytes }
     {
-        &self.buffer[..self.used]
+        self.text.as_str().as_bytes()
     }
 
-    /// Puts `text` in place of what is there.
-    pub(crate) fn set(&mut self, text: &[u8])
-        requires { length text.now ≤ 120 }
-        ensures { self.new ≡ text.now }
-    {
-        self.used = 0;
-        self.push(text);
-    }
-
-    /// Puts `text` behind what is there.
-    pub(crate) fn push(&mut self, text: &[u8])
-        requires { length self.old + length text.now ≤ 120 }
+    /// Puts `text` after what is there.
+    pub(crate) fn push(&mut self, text: &str)
+        requires { length self.old + length text.now ≤ most_line_bytes }
         ensures { self.new ≡ self.old ++ text.now }
     {
-        let end = self.used + text.len();
-        self.buffer[self.used..end].copy_from_slice(text);
-        self.used = end;
+        self.text.push_str(text);
     }
 }

@@ -9,8 +9,9 @@ use mask_bytes::OutOfMemory;
 use std::alloc::Global;
 use tuple_order::Tuple;
 
-/// The report of a check of order `t`: the check, the gadget, and the number `sets` of the sets of probes that were asked
-/// about; a line for each of the `failing` sets, in their order; and the verdict. An `Err` says only that memory ran out.
+/// The report of a check of order `t`: the check, the gadget, and the number `sets` of the sets of probes that were
+/// asked about; a line for each of the `failing` sets, in their order; and the verdict. An `Err` says only that memory
+/// ran out.
 #[tactic(auto, unfolding(crate::specs::Report::report))]
 pub fn report(
     alloc: Global,

@@ -1,7 +1,7 @@
 //! What the caller of the program sees of a status: a line of text, and an exit status.
 
-ghost use Rattle.std.specs.Prelude.{◌≡◌, ◌≤◌, ◌++◌, codes, decimal, length};
-ghost use Rattle.mask_check.specs.Texts.{usage_text, line_text, header_text, what_text, file_text, wires_text, text_of, file_exit, wires_exit, exit_of};
+ghost use Rattle.std.specs.Prelude.{◌≡◌, ◌≤◌, length};
+ghost use Rattle.mask_check.specs.Texts.{row, line_row, memory_row, usage_text, header_text, what_text, file_row, wires_row, row_of};
 
 use crate::line::Line;
 use crate::status::{Status, UsageKind};
@@ -10,164 +10,171 @@ use gadget_tree::{FileError, What};
 use itoa::Buffer;
 use wire_table::WireError;
 
+// A row of the table of statuses.
+#[derive(Drop)]
+struct StatusRow {
+    exit: u8,
+    text: Line,
+}
+
 /// Puts the text of a status, without a line feed, in place of what `out` holds. It is empty where there is a report.
 pub fn status_text(status: &Status, out: &mut Line)
-    ensures { out.new ≡ text_of status.now }
+    ensures { out.new ≡ (row_of status.now).text }
 {
-    match status {
-        Status::Yes | Status::No => out.set(b""),
-        Status::Usage(kind) => out.set(usage_text(*kind)),
-        Status::File(error) => set_file_text(*error, out),
-        Status::Wires(error) => set_wires_text(*error, out),
-        Status::TooLong => out.set(b"mask: file too long"),
-        Status::ReadFault => out.set(b"mask: read failed"),
-        Status::WriteFault => out.set(b"mask: write failed"),
-        Status::OutOfMemory => out.set(b"mask: out of memory"),
-    }
-}
-
-fn usage_text(kind: UsageKind) -> &'static [u8]
-    ensures text { result.now ≡ usage_text kind }
-    ensures short { length result.now ≤ 40 }
-{
-    match kind {
-        UsageKind::Words => b"mask: usage: mask TASK ARG [options]",
-        UsageKind::Task => b"mask: unknown task",
-        UsageKind::Argument => b"mask: bad argument",
-    }
-}
-
-// The text of a file that is refused.
-fn set_file_text(error: FileError, out: &mut Line)
-    ensures { out.new ≡ file_text error }
-{
-    match error {
-        FileError::NotText(line) => set_line_text(line, b"not text", out),
-        FileError::Syntax(line) => set_line_text(line, b"syntax", out),
-        FileError::HeaderTwice(line) => set_line_text(line, b"header twice", out),
-        FileError::HeaderMissing(header) => set_missing_text(header, out),
-        FileError::BadNumber(line) => set_line_text(line, b"bad number", out),
-        FileError::BadName(line) => set_line_text(line, b"bad name", out),
-        FileError::NameTwice(line) => set_line_text(line, b"name twice", out),
-        FileError::Unknown(line) => set_line_text(line, b"unknown name", out),
-        FileError::OutputMissing(output, index) => set_output_text(output, index, out),
-        FileError::TooMany(what) => set_many_text(what, out),
-        FileError::OutOfMemory => out.set(b"mask: out of memory"),
-    }
-}
-
-// The text of a gadget that is refused.
-fn set_wires_text(error: WireError, out: &mut Line)
-    ensures { out.new ≡ wires_text error }
-{
-    match error {
-        WireError::TooWide { line, .. } => set_line_text(line, b"too many monomials", out),
-        WireError::RandomProduct { line, .. } => set_line_text(line, b"random in a product", out),
-        WireError::Degree { line, .. } => set_line_text(line, b"degree above 2", out),
-        WireError::OutOfMemory => out.set(b"mask: out of memory"),
-    }
-}
-
-// A line of the file, and what is amiss with it.
-fn set_line_text(line: u32, offence: &[u8], out: &mut Line)
-    requires { length offence.now ≤ 40 }
-    ensures { out.new ≡ line_text line offence.now }
-{
-    let mut digits = Buffer::new();
-    out.set(b"mask: line ");
-    out.push(digits.format(line).as_bytes());
-    out.push(b": ");
-    out.push(offence);
-}
-
-// A header that the file lacks.
-fn set_missing_text(header: Header, out: &mut Line)
-    ensures { out.new ≡ codes "mask: no " ++ header_text header ++ codes " line" }
-{
-    out.set(b"mask: no ");
-    out.push(header_text(header));
-    out.push(b" line");
-}
-
-// A share of an output that the file does not assign.
-fn set_output_text(output: u8, index: u8, out: &mut Line)
-    ensures { out.new ≡ codes "mask: output " ++ decimal output ++ codes " share " ++ decimal index ++ codes " is not assigned" }
-{
-    let mut digits = Buffer::new();
-    out.set(b"mask: output ");
-    out.push(digits.format(output).as_bytes());
-    out.push(b" share ");
-    out.push(digits.format(index).as_bytes());
-    out.push(b" is not assigned");
-}
-
-// What the file has too many of.
-fn set_many_text(what: What, out: &mut Line)
-    ensures { out.new ≡ codes "mask: too many " ++ what_text what }
-{
-    out.set(b"mask: too many ");
-    out.push(what_text(what));
-}
-
-fn header_text(header: Header) -> &'static [u8]
-    ensures text { result.now ≡ header_text header }
-    ensures short { length result.now ≤ 8 }
-{
-    match header {
-        Header::Profile => b"#PROFILE",
-        Header::Shares => b"#SHARES",
-        Header::In => b"#IN",
-        Header::Randoms => b"#RANDOMS",
-        Header::Out => b"#OUT",
-    }
-}
-
-fn what_text(what: What) -> &'static [u8]
-    ensures text { result.now ≡ what_text what }
-    ensures short { length result.now ≤ 11 }
-{
-    match what {
-        What::Shares => b"shares",
-        What::Inputs => b"inputs",
-        What::Outputs => b"outputs",
-        What::Randoms => b"randoms",
-        What::Nesting => b"parentheses",
-        What::Variables => b"variables",
-    }
+    *out = row_of(status).text;
 }
 
 /// The exit status of the program.
 pub fn exit_status(status: &Status) -> u8
-    ensures { result ≡ exit_of status.now }
+    ensures { result ≡ (row_of status.now).exit }
+{
+    row_of(status).exit
+}
+
+// The table of the statuses.
+fn row_of(status: &Status) -> StatusRow
+    ensures { result ≡ row_of status.now }
 {
     match status {
-        Status::Yes => 0,
-        Status::No => 1,
-        Status::Usage(_) => 2,
-        Status::File(error) => file_exit(*error),
-        Status::Wires(error) => wires_exit(*error),
-        Status::TooLong => 3,
-        Status::ReadFault => 6,
-        Status::WriteFault => 7,
-        Status::OutOfMemory => 8,
+        Status::Yes => row(0, ""),
+        Status::No => row(1, ""),
+        Status::Usage(kind) => row(2, usage_text(*kind)),
+        Status::File(error) => file_row(*error),
+        Status::Wires(error) => wires_row(*error),
+        Status::TooLong => row(3, "mask: file too long"),
+        Status::ReadFault => row(6, "mask: read failed"),
+        Status::WriteFault => row(7, "mask: write failed"),
+        Status::OutOfMemory => memory_row(),
     }
 }
 
-fn file_exit(error: FileError) -> u8
-    ensures { result ≡ file_exit error }
+fn row(exit: u8, text: &str) -> StatusRow
+    requires { length text.now ≤ 40 }
+    ensures { result ≡ row exit text.now }
 {
-    match error {
-        FileError::OutOfMemory => 8,
-        _ => 3,
+    let mut line = Line::new();
+    line.push(text);
+    StatusRow { exit, text: line }
+}
+
+// The same wherever memory ran out.
+fn memory_row() -> StatusRow
+    ensures { result ≡ memory_row }
+{
+    row(8, "mask: out of memory")
+}
+
+fn usage_text(kind: UsageKind) -> &'static str
+    ensures text { result.now ≡ usage_text kind }
+    ensures short { length result.now ≤ 40 }
+{
+    match kind {
+        UsageKind::Words => "mask: usage: mask TASK ARG [options]",
+        UsageKind::Task => "mask: unknown task",
+        UsageKind::Argument => "mask: bad argument",
     }
 }
 
-fn wires_exit(error: WireError) -> u8
-    ensures { result ≡ wires_exit error }
+// Why a file is refused.
+fn file_row(error: FileError) -> StatusRow
+    ensures { result ≡ file_row error }
 {
     match error {
-        WireError::OutOfMemory => 8,
-        _ => 3,
+        FileError::NotText(line) => line_row(line, "not text"),
+        FileError::Syntax(line) => line_row(line, "syntax"),
+        FileError::HeaderTwice(line) => line_row(line, "header twice"),
+        FileError::HeaderMissing(header) => missing_row(header),
+        FileError::BadNumber(line) => line_row(line, "bad number"),
+        FileError::BadName(line) => line_row(line, "bad name"),
+        FileError::NameTwice(line) => line_row(line, "name twice"),
+        FileError::Unknown(line) => line_row(line, "unknown name"),
+        FileError::OutputMissing(output, index) => output_row(output, index),
+        FileError::TooMany(what) => many_row(what),
+        FileError::OutOfMemory => memory_row(),
+    }
+}
+
+// Why a gadget is refused.
+fn wires_row(error: WireError) -> StatusRow
+    ensures { result ≡ wires_row error }
+{
+    match error {
+        WireError::TooWide { line, .. } => line_row(line, "too many monomials"),
+        WireError::RandomProduct { line, .. } => line_row(line, "random in a product"),
+        WireError::Degree { line, .. } => line_row(line, "degree above 2"),
+        WireError::OutOfMemory => memory_row(),
+    }
+}
+
+// A line of the file, and what is wrong with it.
+fn line_row(line: u32, offence: &str) -> StatusRow
+    requires { length offence.now ≤ 40 }
+    ensures { result ≡ line_row line offence.now }
+{
+    let mut digits = Buffer::new();
+    let mut refused = row(3, "mask: line ");
+    refused.text.push(digits.format(line));
+    refused.text.push(": ");
+    refused.text.push(offence);
+    refused
+}
+
+// A header that the file lacks.
+fn missing_row(header: Header) -> StatusRow
+    ensures { result ≡ file_row (FileError.HeaderMissing header) }
+{
+    let mut refused = row(3, "mask: no ");
+    refused.text.push(header_text(header));
+    refused.text.push(" line");
+    refused
+}
+
+// A share of an output that the file does not assign.
+fn output_row(output: u8, index: u8) -> StatusRow
+    ensures { result ≡ file_row (FileError.OutputMissing output index) }
+{
+    let mut digits = Buffer::new();
+    let mut refused = row(3, "mask: output ");
+    refused.text.push(digits.format(output));
+    refused.text.push(" share ");
+    refused.text.push(digits.format(index));
+    refused.text.push(" is not assigned");
+    refused
+}
+
+// What the file has too many of.
+fn many_row(what: What) -> StatusRow
+    ensures { result ≡ file_row (FileError.TooMany what) }
+{
+    let mut refused = row(3, "mask: too many ");
+    refused.text.push(what_text(what));
+    refused
+}
+
+fn header_text(header: Header) -> &'static str
+    ensures text { result.now ≡ header_text header }
+    ensures short { length result.now ≤ 8 }
+{
+    match header {
+        Header::Profile => "#PROFILE",
+        Header::Shares => "#SHARES",
+        Header::In => "#IN",
+        Header::Randoms => "#RANDOMS",
+        Header::Out => "#OUT",
+    }
+}
+
+fn what_text(what: What) -> &'static str
+    ensures text { result.now ≡ what_text what }
+    ensures short { length result.now ≤ 11 }
+{
+    match what {
+        What::Shares => "shares",
+        What::Inputs => "inputs",
+        What::Outputs => "outputs",
+        What::Randoms => "randoms",
+        What::Nesting => "parentheses",
+        What::Variables => "variables",
     }
 }
 
