@@ -3,4 +3,4 @@
 
 mod query;
 
-pub use query::{Asks, Query};
+pub use query::{Question, Query};
