@@ -59,11 +59,11 @@ module _ (Fails : List ℕ → Type 0) (items size : ℕ) where
       CoversRanked Fails items size (record { from = 0; to = to }) list → IsAnswer Fails items size list
   answer-from_all_ranks to list all antichain covers = answer-from_antichain Fails items size list antichain (λ t. (
     (λ c.
-      let r = (covers t).0 c in (r.failing, IsTuple-from_rank items size r.rank r.failing r.ranked, r.fails, r.subset)),
+        let r = (covers t).0 c in (r.failing, IsTuple-from_rank items size r.rank r.failing r.ranked, r.fails, r.subset)),
     (λ h.
-      let r = rank-from_IsTuple items size h.0 h.1 in
-      let w = slice_get_within (tuples items size) r.0 h.0 r.1 in
-      (covers t).1 (record { rank = r.0; begun = omega arith; before_end = omega arith; failing = h.0; ranked = r.1; fails = h.2; subset = h.3 })),
+        let r = rank-from_IsTuple items size h.0 h.1 in
+        let w = slice_get_within (tuples items size) r.0 h.0 r.1 in
+        (covers t).1 (record { rank = r.0; begun = omega arith; before_end = omega arith; failing = h.0; ranked = r.1; fails = h.2; subset = h.3 })),
   ))
 
 -- a step goes to the next rank, where there is one

@@ -23,7 +23,11 @@ pub fn minimal<Q: Query>(alloc: Global, query: &Q) -> Result<Antichain, OutOfMem
 }
 
 // The minimal failing tuples, found in one pass with a counter of its own.
-fn minimal_of_all<Q: Query, L: Ledger>(alloc: Global, query: &Q, blank: Blank) -> Result<Antichain, OutOfMemory>
+fn minimal_of_all<Q: Query, L: Ledger>(
+    alloc: Global,
+    query: &Q,
+    blank: Blank,
+) -> Result<Antichain, OutOfMemory>
     requires name { blank.name ≡ L.name }
     requires parts { blank.parts ≡ L.parts }
     requires whole { blank.parts ≡ 1 }

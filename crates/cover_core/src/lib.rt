@@ -3,4 +3,4 @@
 
 mod query;
 
-pub use query::{Question, Query};
+pub use query::{Query, Question};

@@ -23,8 +23,12 @@ pub record Fails (g : Circuit) (t : ℕ) (probes : List ℕ) : Type 0 where
 abbrev pub Passes : Circuit → ℕ → List ℕ → Type 0
 Passes g t probes = (t < length probes) ⊎ ((set : ℕ) × IsGranted g t set × IsSimulatable g probes set)
 
--- a query: a gadget with its table, and an order
-pub record Query : Type 0 where
+-- what is asked: a gadget, with its table, and an order
+pub record NiQuestion : Type 0 where
   pub gadget : Circuit
   pub table : Table
   pub t : ℕ
+
+-- the sets of probes that fail for a question
+abbrev pub FailsFor : NiQuestion → List ℕ → Type 0
+FailsFor question = Fails question.gadget question.t

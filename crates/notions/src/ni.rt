@@ -1,14 +1,18 @@
 //! Non-interference.
 
-ghost use Rattle.std.specs.Prelude.{◌≡◌, ◌≤◌, ◌<◌, ◌↔◌, ℕ, IfOk, IsOk, IsTrue, false, length};
-ghost use Rattle.tuple_model.specs.Tuples.{IsRising};
-ghost use Rattle.notions.specs.Ni.{Fails, Passes, shares_of};
+ghost use Rattle.std.specs.Prelude.{◌≡◌, ◌+◌, ◌≤◌, ◌<◌, ◌↔◌, ℕ, IfOk, IsOk, IsTrue, false, length};
+ghost use Rattle.tuple_model.specs.Tuples.{IsTuple};
+ghost use Rattle.notions.specs.Ni.{FailsFor, Passes, shares_of};
 ghost use Rattle.wire_table.specs.Tables.{StandsFor};
 
+use cover_core::{Query, Question};
 use gadget_tree::Gadget;
 use mask_bytes::OutOfMemory;
 use needed::Elimination;
+use std::alloc::Global;
 use std::marker::Model;
+use std::sync::ledger::Ledger;
+use tuple_order::{Steps, Tuple};
 use wire_table::WireTable;
 
 /// The question whether sets of probes break non-interference of order `t` (Barthe et al., CCS 2016):
@@ -21,13 +25,13 @@ pub struct NiCheck<'g> {
 }
 
 impl<'g> Model for NiCheck<'g> {
-    ghost use Rattle.notions.specs.Ni.{Query};
+    ghost use Rattle.notions.specs.Ni.{NiQuestion};
 
-    ghost Value = { Query };
+    ghost Value = { NiQuestion };
 
-    ghost use Rattle.notions.specs.Inside.{query_of, IsPrepared};
+    ghost use Rattle.notions.specs.Inside.{question_of, IsPrepared};
 
-    ghost view = { query_of };
+    ghost view = { question_of };
 
     ghost invariant = { IsPrepared };
 }
@@ -44,20 +48,53 @@ impl<'g> NiCheck<'g> {
     {
         Ok(NiCheck { gadget, table, t })
     }
+}
 
-    /// Whether the probes on these variables fail. The scratch is one for the gadget's table.
-    pub fn bad(&self, scratch: &mut Elimination<'_>, vars: &[u16]) -> bool
+/// The items are the gadget's variables, and a tuple has at most `t` of them.
+impl<'g> Question for NiCheck<'g> {
+    ghost items = { λ question. length question.gadget.variables };
+
+    ghost size = { λ question. question.t };
+
+    ghost Fails = { FailsFor };
+}
+
+impl<'g> Query for NiCheck<'g> {
+    type Scratch = Elimination<'g>;
+
+    ghost Fits = { λ question scratch. scratch ≡ question.table };
+
+    fn items(&self) -> u16 {
+        self.gadget.vars().len() as u16
+    }
+
+    fn size(&self) -> u8 {
+        self.t
+    }
+
+    fn scratch(&self, alloc: Global) -> Result<Elimination<'g>, OutOfMemory> {
+        Elimination::make(alloc, self.table)
+    }
+
+    /// Whether probes on these variables fail. Where they don't, a set of input shares that the notion grants simulates them.
+    fn judge<L: Ledger>(
+        &self,
+        scratch: &mut Elimination<'g>,
+        t: &Tuple,
+        steps: &mut Steps<L>,
+    ) -> bool
         requires scratch { scratch.old ≡ self.now.table }
-        requires rising { IsRising 0 (length self.now.gadget.variables) vars.now }
-        ensures scratch { scratch.new ≡ scratch.old }
-        ensures fails { IsTrue result → Fails self.now.gadget self.now.t vars.now }
-        ensures passes { result ≡ false → Passes self.now.gadget self.now.t vars.now }
+        requires tuple { IsTuple (length self.now.gadget.variables) self.now.t t.now }
+        ensures scratch { scratch.new ≡ self.now.table }
+        ensures fails { IsTrue result → FailsFor self.now t.now }
+        ensures passes { result ≡ false → FailsFor self.now t.now → ⊥ }
+        ensures simulated { result ≡ false → Passes self.now.gadget self.now.t t.now }
+        ensures step { steps.new ≡ steps.old + 1 }
     {
-        if usize::from(self.t) < vars.len() {
-            return false;
-        }
-        let least = scratch.needed(vars);
-        !is_granted(least, self.gadget.inputs().len() as u8, self.t)
+        steps.tick();
+        let inputs = self.gadget.inputs().len() as u8;
+        let least = scratch.needed(t.items());
+        !is_granted(least, inputs, self.t)
     }
 }
 

@@ -31,6 +31,6 @@ loop-rank-preserved g c =
 pub returns-clause-covers : goal.returns-clause-covers
 returns-clause-covers g c =
     let P : ℕ → Type 0 = λ rank. CoversBefore (g.Q.Question.Fails c.args.query.now) (g.Q.Question.items c.args.query.now) (g.Q.Question.size c.args.query.now)
-        c.args.range.from rank c.loop-rank.list in
+    c.args.range.from rank c.loop-rank.list in
     let end : c.loop-rank._rank ≡ c.args.range.to = omega arith in
     subst P end c.loop-rank.invariant.covers
