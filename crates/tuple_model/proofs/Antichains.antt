@@ -12,9 +12,9 @@ use Rattle.tuple_model.specs.Antichains.{Covers, IsAntichain, CoversSame, Covers
 use Rattle.tuple_model.proofs.Rising.{IsRising-to_higher, IsTuple-from_member, member-from_IsTuple, tuples-ordered}
 use Rattle.tuple_model.proofs.Ranks.{IsBefore-irreflexive}
 use Rattle.tuple_model.proofs.Subsets.{IsTuple-subset, length-subset, member-from_subset, subset-whole, subset-proper, subset-from_members}
-use Rattle.tuple_model.proofs.Answers.{IsAnswer-from_Picks}
+use Rattle.tuple_model.proofs.Answers.{IsAnswer-from_Picks, equal_or_not}
 
--- Settled: whether an item is in a tuple, whether a tuple is a subset of another, whether two are equal.
+-- Settled: whether an item is in a tuple, and whether a tuple is a subset of another.
 pub has_or_lacks : (t : List ℕ) (item : ℕ) → Contains t item ⊎ (Contains t item → ⊥)
 has_or_lacks [] item = inr (Contains-nil item)
 has_or_lacks (a ∷ t) item = elim (cases_eq a item) [
@@ -33,15 +33,6 @@ IsSubset-or_not (a ∷ s) t = elim (has_or_lacks t a) [
     | inr n ↦ inr (λ all. n (λ item k. all item (Contains-cons_tail a s item k)))
   ]
   | inr n ↦ inr (λ all. n (all a (Contains-cons_head a s)))
-]
-
-equal_or_not : (s t : List ℕ) → (s ≡ t) ⊎ (s ≡ t → ⊥)
-equal_or_not [] [] = inl refl
-equal_or_not [] (b ∷ t) = inr (λ e. cc)
-equal_or_not (a ∷ s) [] = inr (λ e. cc)
-equal_or_not (a ∷ s) (b ∷ t) = elim (cases_eq a b) [
-  | inl same ↦ elim (equal_or_not s t) [ inl e ↦ inl cc | inr n ↦ inr (λ f. let e : s ≡ t = cc in n e) ]
-  | inr other ↦ inr (λ f. let e : a ≡ b = cc in other e)
 ]
 
 pub IsSubset-trans : (r s t : List ℕ) → IsSubset r s → IsSubset s t → IsSubset r t

@@ -45,11 +45,10 @@ pub fn one_answer_law<F: Failing>()
     ensures { (items size : ℕ) (a b : List (List ℕ)) → IsAnswer F.Fails items size a → IsAnswer F.Fails items size b → a ≡ b }
 {}
 
-/// Where it is settled for each tuple whether it fails, each failing tuple has a subset in the answer.
-/// So the answer is empty exactly where no tuple fails. Failing need not be inherited by supersets.
+/// Each failing tuple has a subset in the answer, so the answer is empty exactly where no tuple fails. Failing need not
+/// be inherited by supersets, and it need not be settled for each tuple whether it fails.
 pub fn answer_law<F: Failing>()
     ensures { (items size : ℕ) (answer : List (List ℕ)) → IsAnswer F.Fails items size answer →
-        ((t : List ℕ) → IsTuple items size t → F.Fails t ⊎ (F.Fails t → ⊥)) →
         (t : List ℕ) → IsTuple items size t → F.Fails t → (k : ℕ) × (k < 2 ^ length t) × Contains answer (subset k t) }
 {}
 
