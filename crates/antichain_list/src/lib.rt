@@ -2,5 +2,6 @@
 #![tactic(auto)]
 
 mod antichain;
+mod readers;
 
 pub use antichain::{Added, Antichain};

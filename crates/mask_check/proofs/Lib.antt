@@ -1,4 +1,3 @@
-pub mod Walks
 pub mod ReportTexts
 pub mod Decisions
 pub mod Completions

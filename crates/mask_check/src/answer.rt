@@ -4,11 +4,11 @@ ghost use Rattle.std.specs.Prelude.{◌≤◌, IfOk};
 ghost use Rattle.wire_table.specs.Tables.{StandsFor};
 ghost use Rattle.mask_check.specs.Ends.{Answers};
 
-use crate::minimal::minimal_failing;
 use crate::report::report;
+use check_workers::minimal;
+use cover_core::Query;
 use gadget_tree::Gadget;
 use mask_bytes::OutOfMemory;
-use needed::Elimination;
 use notions::NiCheck;
 use std::alloc::Global;
 use tuple_order::count;
@@ -34,12 +34,11 @@ pub fn decide(
     ensures { IfOk result (λ answer. Answers gadget.now t answer.secure answer.report.items) }
 {
     let check = NiCheck::make(gadget, table, t)?;
-    let mut scratch = Elimination::make(alloc, table)?;
-    let items = gadget.vars().len() as u16;
-    let minimal = minimal_failing(alloc, &check, &mut scratch, items, t)?;
-    let report = report(alloc, gadget, t, count(items, t), &minimal)?;
+    let failing = minimal(alloc, &check)?;
+    let sets = count(check.items(), check.size());
+    let report = report(alloc, gadget, t, sets, &failing)?;
     Ok(Answer {
-        secure: minimal.is_empty(),
+        secure: failing.is_empty(),
         report,
     })
 }

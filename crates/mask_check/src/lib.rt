@@ -3,7 +3,6 @@
 
 mod answer;
 mod line;
-mod minimal;
 mod report;
 mod run;
 mod status;

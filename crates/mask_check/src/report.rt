@@ -3,11 +3,11 @@ ghost use Rattle.std.specs.Prelude.{◌≡◌, ◌<◌, ◌++◌, length, All, I
 ghost use Rattle.gadget_tree.specs.Variables.{name_at};
 ghost use Rattle.mask_check.specs.Report.{AreVariables, check_line as check_line_of, gadget_line as gadget_line_of, space_line as space_line_of, head as head_of, name_word, fail_line, verdict, report as report_of};
 
+use antichain_list::Antichain;
 use gadget_tree::Gadget;
 use itoa::Buffer;
 use mask_bytes::OutOfMemory;
 use std::alloc::Global;
-use tuple_order::Tuple;
 
 /// The report of a check of order `t`: the check, the gadget, and the number `sets` of the sets of probes that were
 /// asked about; a line for each of the `failing` sets, in their order; and the verdict. An `Err` says only that memory
@@ -18,14 +18,14 @@ pub fn report(
     gadget: &Gadget,
     t: u8,
     sets: u64,
-    failing: &[Tuple],
+    failing: &Antichain,
 ) -> Result<Vec<u8>, OutOfMemory>
     requires variables { All (AreVariables gadget.now) failing.now }
     ensures { IfOk result (λ bytes. bytes.items ≡ report_of gadget.now t sets failing.now) }
 {
     let mut bytes = head(alloc, gadget, t, sets)?;
-    for probes in failing {
-        add_fail_line(&mut bytes, gadget, probes.items())?;
+    for place in 0..failing.len() {
+        add_fail_line(&mut bytes, gadget, failing.tuple(place).items())?;
     }
     add_verdict(&mut bytes, failing)?;
     Ok(bytes)
@@ -102,7 +102,7 @@ fn variable_name(gadget: &Gadget, variable: u16) -> &[u8]
 }
 
 /// Adds the verdict.
-fn add_verdict(bytes: &mut Vec<u8>, failing: &[Tuple]) -> Result<(), OutOfMemory>
+fn add_verdict(bytes: &mut Vec<u8>, failing: &Antichain) -> Result<(), OutOfMemory>
     ensures { OnOk result (bytes.new.items ≡ bytes.old.items ++ verdict failing.now) }
 {
     let line: &[u8] = if failing.is_empty() {

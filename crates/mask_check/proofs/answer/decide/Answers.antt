@@ -1,29 +1,23 @@
-use Rattle.std.proofs.Common.{◌≡◌, ℕ, List, length, map, sym, ap, ◌∙◌, subst, vec_len}
-use Rattle.std.specs.Prelude.{◌<◌, All}
-use Rattle.std.proofs.lemmas.List.{length-map}
-use Rattle.gadget_model.specs.Circuit.{Variable}
-use Rattle.gadget_tree.specs.Seen.{variable_of}
-use Rattle.mask_check.specs.Report.{report}
-use Rattle.mask_check.proofs.Decisions.{items_below, Answers-from, empty-from_count}
+use Rattle.mask_check.proofs.Decisions.{answer-from_check, sets-from_check, Answers-from}
+use Rattle.mask_check.proofs.ReportTexts.{AreVariables-from_answer}
+use Rattle.notions.specs.Ni.{Fails}
 use Rattle.mask_check.proofs.answer.decide.Goals as goal
-
--- the number of variables
-variable_count : (vars : List _) (variables : List Variable) → map variable_of vars ≡ variables → length vars ≡ length variables
-variable_count vars variables e = sym (length-map vars variable_of) ∙ ap (λ (vs : List Variable). length vs) e
 
 pub report-requires : goal.report-requires
 report-requires c =
-    let n = length c.vars.result.now in
-    let e = variable_count c.vars.result.now c.args.gadget.now.variables c.vars.ensures.variables in
-    let P : ℕ → Type 0 = λ items. All (λ s. All (λ v. v < items) s) c.deref.result.now in
-    record { variables = subst P e (items_below c.in_ok-check.check n c.args.t c.in_ok-minimal.minimal.items c.in_ok-minimal.ensures.answer c.deref.result.now c.deref.ensures.value) }
+    let g = c.args.gadget.now in
+    record {
+      variables = AreVariables-from_answer (Fails g c.args.t) g c.args.t c.in_ok-failing.failing
+          (answer-from_check c.in_ok-check.check g c.args.t c.in_ok-failing.failing c.in_ok-check.ensures.gadget c.in_ok-check.ensures.order c.in_ok-failing.ensures.answer);
+    }
 
 pub returns : goal.returns
 returns c =
-    let n = length c.vars.result.now in
     let g = c.args.gadget.now in
-    Answers-from g c.args.t n c.in_ok-check.check c.in_ok-minimal.minimal.items c.is_empty.result c.in_ok-report.report.items c.count.result
-    c.in_ok-check.ensures.gadget c.in_ok-check.ensures.order (variable_count c.vars.result.now g.variables c.vars.ensures.variables)
-    c.in_ok-minimal.ensures.answer c.in_ok-minimal.ensures.settled
-    (empty-from_count c.is_empty.result (vec_len c.in_ok-minimal.minimal) c.in_ok-minimal.minimal.items c.is_empty.ensures c.in_ok-minimal.minimal.ok.0) c.count.ensures
-    (c.in_ok-report.ensures ∙ ap (report g c.args.t c.count.result) c.deref.ensures.value)
+    let q = c.in_ok-check.check in
+    let is_g = c.in_ok-check.ensures.gadget in
+    let is_t = c.in_ok-check.ensures.order in
+    Answers-from g c.args.t c.in_ok-failing.failing c.is_empty.result c.in_ok-report.report.items c.count-sets.result
+    (answer-from_check q g c.args.t c.in_ok-failing.failing is_g is_t c.in_ok-failing.ensures.answer) c.is_empty.ensures
+    (sets-from_check q g c.args.t c.items.result c.size.result c.count-sets.result is_g is_t c.items.ensures.items c.size.ensures.size c.count-sets.ensures)
+    c.in_ok-report.ensures
