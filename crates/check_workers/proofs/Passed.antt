@@ -9,7 +9,7 @@ use Rattle.tuple_model.specs.Minimal.{IsAnswer}
 use Rattle.tuple_model.specs.Antichains.{Covers, IsAntichain}
 use Rattle.tuple_model.proofs.Ranks.{IsTuple-from_rank, rank-from_IsTuple}
 use Rattle.tuple_model.proofs.Antichains.{answer-from_antichain, Covers-added}
-use Rattle.tuple_order.specs.declared.stubs.Range.{Range}
+use Rattle.tuple_order.specs.declared.ranks.Range.{Range}
 use Rattle.antichain_list.specs.declared.antichain.Added.{Added}
 use Rattle.antichain_list.specs.declared.antichain.Added.TheVariants.{Kept, Covered}
 use Rattle.antichain_list.specs.Lists.{MatchAdded}

@@ -2,7 +2,7 @@
 use Rattle.std.specs.Prelude.{◌≡◌, ◌↔◌, ◌⊎◌, ℕ, ◌<◌, ◌≤◌, List, Some, slice_get}
 use Rattle.tuple_model.specs.Tuples.{IsSubset, tuples}
 use Rattle.tuple_model.specs.Antichains.{Covers}
-use Rattle.tuple_order.specs.declared.stubs.Range.{Range}
+use Rattle.tuple_order.specs.declared.ranks.Range.{Range}
 
 -- Some failing tuple with a rank in the range is a subset of the tuple.
 pub record HasRankedSubset (Fails : List ℕ → Type 0) (items size : ℕ) (range : Range) (t : List ℕ) : Type 0 where
