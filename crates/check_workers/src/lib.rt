@@ -4,3 +4,6 @@
 mod pass;
 
 pub use pass::{minimal, minimal_in};
+
+#[cfg(test)]
+mod tests;
