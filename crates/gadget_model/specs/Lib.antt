@@ -3,3 +3,4 @@ pub mod Circuit
 pub mod Simulation
 pub mod Polynomials
 pub mod Classes
+pub mod Limits
