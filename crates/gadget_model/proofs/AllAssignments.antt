@@ -1,10 +1,19 @@
 -- The list of all assignments has each list of that many bits, once.
-use Rattle.std.proofs.Common.{◌≡◌, ◌≢◌, ℕ, zero, suc, Bool, true, false, List, [], ◌∷◌, ◌++◌, map, length, refl, ap, sym, ◌∙◌, inl, inr, arith, Contains, ◌↔◌}
-use Rattle.std.specs.List.{AllPairs}
+use Rattle.std.proofs.Common.{◌≡◌, ◌≢◌, ℕ, zero, suc, ◌<◌, Bool, true, false, List, [], ◌∷◌, map, length, ap, sym, ◌∙◌, inl, inr, arith, Contains, ◌↔◌, length-append}
+use Rattle.std.proofs.lemmas.List.{length-map}
 use Rattle.std.proofs.lemmas.List.Elements.{Contains-append_left, Contains-append_right, Contains-append_cases}
 use Rattle.list_laws.proofs.Members.{Contains-cons_head, Contains-cons_cases, Contains-map, Contains-from_map, AllPairs-append, AllPairs-map}
 use Rattle.list_laws.proofs.Once.{Once, Once-single, Contains-nil}
 use Rattle.gadget_model.specs.Bits.{assignments}
+
+-- there is some assignment
+pub length-assignments : (n : ℕ) → 0 < length (assignments n)
+length-assignments zero = omega arith
+length-assignments (suc n) =
+    let i = length-assignments n in
+    let e = length-append (map (λ r. false ∷ r) (assignments n)) (map (λ r. true ∷ r) (assignments n)) in
+    let e' = length-map (assignments n) (λ (r : List Bool). false ∷ r) in
+    omega arith
 
 Contains-assignments : (n : ℕ) (r : List Bool) → length r ≡ n → Contains (assignments n) r
 Contains-assignments zero [] e = Contains-cons_head [] []

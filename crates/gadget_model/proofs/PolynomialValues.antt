@@ -2,6 +2,7 @@
 use Rattle.std.proofs.Common.{◌≡◌, ◌↔◌, ℕ, zero, suc, ◌<◌, ◌^◌, max, Bool, true, false, eqb, not, ◌&&◌, ◌||◌, List, [], ◌∷◌, ◌++◌, refl, ap, sym, ◌∙◌, inl, inr, arith, Contains, bit_or, Some, length}
 use Rattle.std.specs.Prelude.{slice_get}
 use Rattle.std.specs.Int.{bit_at}
+use Rattle.std.proofs.Math.Bool.{and-true}
 use Rattle.std.proofs.lemmas.Bool.{cases_eq}
 use Rattle.std.proofs.lemmas.Nat.Bits.{bit_at_or, bit_at-lt, bit_at-pow_same, bit_at-pow_other}
 use Rattle.std.proofs.lemmas.List.{length-map}
@@ -22,11 +23,6 @@ set_product-none zero set bits none = refl
 set_product-none (suc n) set bits none =
     ap (λ (b : Bool). b && (not (eqb (bit_at set n) 1) || bits n)) (set_product-none n set bits (λ k less. none k (omega arith)))
     ∙ ap (λ (u : ℕ). not (eqb u 1) || bits n) (none n (omega arith))
-
--- a factor of 1 changes nothing
-and-true : (b : Bool) → (b && true) ≡ b
-and-true true = refl
-and-true false = refl
 
 -- the product over one variable is its value
 pub set_product-single : (n v : ℕ) (bits : ℕ → Bool) → v < n → set_product n (2 ^ v) bits ≡ bits v

@@ -1,5 +1,5 @@
 -- Laws of simulatability.
-use Rattle.std.proofs.Common.{◌≡◌, ℕ, zero, suc, ◌<◌, Bool, true, false, eqb, List, [], ◌∷◌, map, length, refl, ap, sym, ◌∙◌, inl, inr, arith, Some, subst, length-append}
+use Rattle.std.proofs.Common.{◌≡◌, ℕ, zero, suc, Bool, true, false, eqb, List, [], ◌∷◌, map, refl, ap, sym, ◌∙◌, inl, inr, arith, Some, subst}
 use Rattle.std.specs.Prelude.{count_by, Contains, slice_get}
 use Rattle.std.specs.Int.{bit_at}
 use Rattle.std.proofs.lemmas.Bool.{cases_eq}
@@ -7,8 +7,8 @@ use Rattle.std.proofs.lemmas.Bool.Decides.{eqb_tells}
 use Rattle.gadget_model.specs.Bits.{same_bits, assignments}
 use Rattle.gadget_model.specs.Circuit.{share, Circuit, nodes, value, IsInOrder}
 use Rattle.gadget_model.specs.Simulation.{observation, distribution, SameDistribution, HasShare, IsWithin, AgreeOn, IsSimulatable, HasAllShares}
+use Rattle.gadget_model.proofs.AllAssignments.{length-assignments}
 use Rattle.gadget_model.proofs.Values.{value-node, value-same}
-use Rattle.std.proofs.lemmas.List.{length-map}
 use Rattle.list_laws.proofs.Counts.{count_by-map, count_by-all, count_by-none, map-map, map-same}
 use Rattle.gadget_model.proofs.Distributions.{count_by-same}
 use Rattle.gadget_model.proofs.Projections.{picked, places}
@@ -44,15 +44,6 @@ pub IsSimulatable-nil : (g : Circuit) → IsSimulatable g [] 0
 unfolding IsSimulatable
 IsSimulatable-nil g x x' agree = distribution-same g [] x x' (λ r. refl)
 
--- there is some assignment
-assignments-some : (n : ℕ) → 0 < length (assignments n)
-assignments-some zero = omega arith
-assignments-some (suc n) =
-    let i = assignments-some n in
-    let l = length-append (map (λ r. false ∷ r) (assignments n)) (map (λ r. true ∷ r) (assignments n)) in
-    let m = length-map (assignments n) (λ (r : List Bool). false ∷ r) in
-    omega arith
-
 pub Contains-only : (probes : List ℕ) (v w : ℕ) → Contains probes v → Contains (v ∷ []) w → Contains probes w
 Contains-only probes v w among (zero, less, e) = let P : ℕ → Type 0 = λ z. Contains probes z in subst P e among
 Contains-only probes v w among (suc k, less, e) = absurd (omega arith)
@@ -73,7 +64,7 @@ told_apart g v x x' on off same =
     ∙ count_by-all (λ r. test (observation g (v ∷ []) x r)) (λ r. ap (λ (b : Bool). test (b ∷ [])) (on r)) (assignments g.randoms) in
     let none = count_by-map (observation g (v ∷ []) x') test (assignments g.randoms)
     ∙ count_by-none (λ r. test (observation g (v ∷ []) x' r)) (λ r. ap (λ (b : Bool). test (b ∷ [])) (off r)) (assignments g.randoms) in
-    let some = assignments-some g.randoms in
+    let some = length-assignments g.randoms in
     let e = same (true ∷ []) in
     omega arith
 

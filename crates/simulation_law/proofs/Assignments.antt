@@ -1,11 +1,12 @@
 -- The list of all assignments of the randoms, and what is computed from each of them.
-use Rattle.std.proofs.Common.{◌≡◌, ℕ, zero, suc, ◌+◌, ◌<◌, Bool, true, false, List, [], ◌∷◌, ◌++◌, map, length, refl, ap, sym, ◌∙◌, arith, length-append}
+use Rattle.std.proofs.Common.{◌≡◌, ℕ, zero, suc, ◌+◌, Bool, true, false, List, [], ◌∷◌, ◌++◌, map, length, refl, ap, sym, ◌∙◌, arith}
 use Rattle.std.specs.Prelude.{count_by}
-use Rattle.std.proofs.lemmas.List.{length-map, map-append}
+use Rattle.std.proofs.lemmas.List.{map-append}
 use Rattle.std.proofs.lemmas.List.Sums.{sum_by-append}
 use Rattle.list_laws.proofs.Counts.{one_if, count_by-map, count_by-all, count_by-none, map-map}
 use Rattle.gadget_model.specs.Bits.{same_bits, assignments}
 use Rattle.gadget_model.specs.Simulation.{SameDistribution}
+use Rattle.gadget_model.proofs.AllAssignments.{length-assignments}
 use Rattle.bit_lists.specs.BitLists.{add_bits}
 
 -- the assignments whose first bit is false, and then those whose first bit is true
@@ -64,15 +65,6 @@ SameDistribution-translate f n s e y =
     count_by-map (λ r. f (add_bits s r)) (same_bits y) (assignments n)
     ∙ count_by-translate (λ r. same_bits y (f r)) n s e
     ∙ sym (count_by-map f (same_bits y) (assignments n))
-
--- there is some assignment
-pub length-assignments : (n : ℕ) → 0 < length (assignments n)
-length-assignments zero = omega arith
-length-assignments (suc n) =
-    let i = length-assignments n in
-    let e = length-append (map (λ r. false ∷ r) (assignments n)) (map (λ r. true ∷ r) (assignments n)) in
-    let e' = length-map (assignments n) (λ (r : List Bool). false ∷ r) in
-    omega arith
 
 -- of two bits that the assignments leave alone, both are true equally often only where they are the same
 pub count_by-constant : (n : ℕ) (a b : Bool) → count_by (λ r. a) (assignments n) ≡ count_by (λ r. b) (assignments n) → a ≡ b
