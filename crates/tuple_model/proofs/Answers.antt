@@ -3,11 +3,12 @@ use Rattle.std.proofs.Common.{◌≡◌, ℕ, zero, suc, ◌-◌, ◌^◌, ◌<�
 use Rattle.std.proofs.lemmas.Bool.{cases_lt, cases_eq}
 use Rattle.list_laws.proofs.Members.{Contains-cons_head, Contains-cons_tail, Contains-cons_cases}
 use Rattle.list_laws.proofs.Once.{Contains-nil}
-use Rattle.tuple_model.specs.Tuples.{IsTuple, tuples, subset}
+use Rattle.std.specs.List.{AllPairs}
+use Rattle.tuple_model.specs.Tuples.{IsTuple, IsBefore, tuples, subset}
 use Rattle.tuple_model.specs.Minimal.{IsMinimal, Picks, IsAnswer}
-use Rattle.tuple_model.proofs.Rising.{IsTuple-from_member, member-from_IsTuple}
+use Rattle.tuple_model.proofs.Rising.{IsTuple-from_member, member-from_IsTuple, tuples-ordered}
 use Rattle.tuple_model.proofs.Subsets.{subset-whole, subset-proper, subset-subset, IsTuple-subset}
-use Rattle.tuple_model.proofs.Picking.{Picks-unique, picked-from_member, member-from_picked}
+use Rattle.tuple_model.proofs.Picking.{Picks-unique, AllPairs-picked, picked-from_member, member-from_picked}
 
 module _ (Fails : List ℕ → Type 0) (items size : ℕ) where
   pub IsAnswer-from_Picks : (answer : List (List ℕ)) → Picks (IsMinimal Fails) (tuples items size) answer → IsAnswer Fails items size answer
@@ -28,6 +29,10 @@ module _ (Fails : List ℕ → Type 0) (items size : ℕ) where
   pub answer-from_minimal : (answer : List (List ℕ)) (t : List ℕ) → IsAnswer Fails items size answer → IsTuple items size t → IsMinimal Fails t → Contains answer t
   unfolding IsAnswer
   answer-from_minimal answer t h k m = picked-from_member (IsMinimal Fails) (tuples items size) answer t h (member-from_IsTuple items size t k) m
+
+  pub IsBefore-from_answer : (answer : List (List ℕ)) → IsAnswer Fails items size answer → AllPairs IsBefore answer
+  unfolding IsAnswer
+  IsBefore-from_answer answer h = AllPairs-picked IsBefore (IsMinimal Fails) (tuples items size) answer h (tuples-ordered items size)
 
   pub minimal-from_answer : (answer : List (List ℕ)) (t : List ℕ) → IsAnswer Fails items size answer → Contains answer t → IsTuple items size t × IsMinimal Fails t
   unfolding IsAnswer

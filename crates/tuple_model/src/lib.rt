@@ -4,7 +4,7 @@
 ghost use Rattle.std.specs.Prelude.{◌≡◌, ◌↔◌, ◌⊎◌, ◌^◌, ◌<◌, ◌≤◌, ℕ, suc, List, [], Some, length, slice_get, AllPairs, Contains};
 ghost use Rattle.tuple_model.specs.Limits.{most_items, most_size};
 ghost use Rattle.tuple_model.specs.Tuples.{IsTuple, IsRising, IsBefore, IsSubset, tuples, subset};
-ghost use Rattle.tuple_model.specs.Minimal.{IsAnswer};
+ghost use Rattle.tuple_model.specs.Minimal.{IsMinimal, IsAnswer};
 ghost use Rattle.tuple_model.specs.Antichains.{Covers, IsAntichain, CoversSame, CoversFailing, Adds, CoversMore};
 
 /// What it means that a set of items fails.
@@ -42,13 +42,19 @@ pub fn subset_law()
 
 /// A query has at most one answer.
 pub fn one_answer_law<F: Failing>()
-    ensures { (items size : ℕ) (a b : List (List ℕ)) → IsAnswer F.Fails items size a → IsAnswer F.Fails items size b → a ≡ b }
+    ensures { (items size : ℕ) (a b : List (List ℕ)) →
+        IsAnswer F.Fails items size a → IsAnswer F.Fails items size b → a ≡ b }
 {}
 
-/// Each failing tuple has a subset in the answer, so the answer is empty exactly where no tuple fails. Failing need not
-/// be inherited by supersets, and it need not be settled for each tuple whether it fails.
+/// The answer has exactly the minimal failing tuples, in order. Each failing tuple has a subset in it, so it is empty
+/// exactly where no tuple fails. Failing need not be inherited by supersets, and it need not be settled for each tuple
+/// whether it fails.
 pub fn answer_law<F: Failing>()
-    ensures { (items size : ℕ) (answer : List (List ℕ)) → IsAnswer F.Fails items size answer →
+    ensures members { (items size : ℕ) (answer : List (List ℕ)) → IsAnswer F.Fails items size answer →
+        (t : List ℕ) → Contains answer t ↔ (IsTuple items size t × IsMinimal F.Fails t) }
+    ensures ordered { (items size : ℕ) (answer : List (List ℕ)) →
+        IsAnswer F.Fails items size answer → AllPairs IsBefore answer }
+    ensures answered { (items size : ℕ) (answer : List (List ℕ)) → IsAnswer F.Fails items size answer →
         (t : List ℕ) → IsTuple items size t → F.Fails t → (k : ℕ) × (k < 2 ^ length t) × Contains answer (subset k t) }
 {}
 
