@@ -23,7 +23,8 @@ pub fn value_law()
 /// Fewer probes are simulatable from more shares.
 pub fn monotone_law()
     ensures { (g : Circuit) (probes fewer : List ℕ) (set more : ℕ) →
-        IsSimulatable g probes set → ((v : ℕ) → Contains fewer v → Contains probes v) → IsWithin set more → IsSimulatable g fewer more }
+        IsSimulatable g probes set → ((v : ℕ) → Contains fewer v → Contains probes v) → IsWithin set more →
+        IsSimulatable g fewer more }
 {}
 
 /// Any probes are simulatable from all input shares.
@@ -48,7 +49,8 @@ pub fn polynomial_law()
     ensures value { (g : Circuit) → IsInOrder g → (x : ℕ → Bool) (r : List Bool) (v : ℕ) → v < length g.variables →
         value g x r v ≡ polynomial_value (length g.variables) (polynomial g v) (value g x r) }
     ensures once { (g : Circuit) (v : ℕ) → AllPairs (λ a b. a ≢ b) (polynomial g v) }
-    ensures leaves { (g : Circuit) → IsInOrder g → (v m w : ℕ) → Contains (polynomial g v) m → HasVariable m w → IsShare g w ⊎ IsRandom g w }
+    ensures leaves { (g : Circuit) → IsInOrder g → (v m w : ℕ) → Contains (polynomial g v) m → HasVariable m w →
+        IsShare g w ⊎ IsRandom g w }
 {}
 
 /// A monomial is in the symmetric difference of two sets where it is in exactly one of them.

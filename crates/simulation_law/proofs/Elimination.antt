@@ -10,7 +10,7 @@ use Rattle.gadget_model.proofs.Distributions.{count_by-same}
 use Rattle.bit_lists.specs.BitLists.{add_bits, chosen_sum}
 use Rattle.bit_lists.proofs.BitLists.{add_bits-assoc, add_bits-cancel, length-add_bits, chosen_sum-add_bits}
 use Rattle.simulation_law.specs.Linear.{IsLinear, RandomsCancel, linear_distribution}
-use Rattle.simulation_law.specs.Elimination.{IsSimulatableFrom, IsFunctionOf, HasAdditiveRandoms}
+use Rattle.simulation_law.specs.Elimination.{IsSimulatableFrom, CancelledSumsAreFunctionsOf, HasAdditiveRandoms}
 use Rattle.simulation_law.proofs.Assignments.{map-assignments, SameDistribution-translate, count_by-constant}
 use Rattle.simulation_law.proofs.Choices.{resized, length-resized, chosen_sum-resized}
 use Rattle.simulation_law.proofs.Linear.{chosen_sum-cancelling, RandomsCancel-resized}
@@ -62,7 +62,7 @@ chosen_sum-same n M v w same c cancels =
 pub IsSimulatableFrom-linear : (randoms values : ℕ) (f : (ℕ → Bool) → List Bool) (M : List Bool → List Bool) (set : ℕ) →
     ((x : ℕ → Bool) → length (f x) ≡ values) → IsLinear randoms values M →
     IsSimulatableFrom (λ x. linear_distribution randoms M (f x)) set
-    ↔ ((choice : List Bool) → length choice ≡ values → RandomsCancel randoms M choice → IsFunctionOf (λ x. chosen_sum choice (f x)) set)
+    ↔ CancelledSumsAreFunctionsOf randoms values f M set
 IsSimulatableFrom-linear randoms values f M set lengths linear = (
   (λ simulatable choice size cancels x x' agree. chosen_sum-same randoms M (f x) (f x') (simulatable x x' agree) choice cancels),
   (λ functions x x' agree. SameDistribution-linear randoms values M linear (f x) (f x') (lengths x) (lengths x')
@@ -78,7 +78,7 @@ distribution-additive g probes f M h x = map-assignments (observation g probes x
 pub IsSimulatable-additive : (g : Circuit) (probes : List ℕ) (f : (ℕ → Bool) → List Bool) (M : List Bool → List Bool) (set : ℕ) →
     HasAdditiveRandoms g probes f M →
     IsSimulatable g probes set
-    ↔ ((choice : List Bool) → length choice ≡ length probes → RandomsCancel g.randoms M choice → IsFunctionOf (λ x. chosen_sum choice (f x)) set)
+    ↔ CancelledSumsAreFunctionsOf g.randoms (length probes) f M set
 unfolding IsSimulatable
 IsSimulatable-additive g probes f M set h =
     let law = IsSimulatableFrom-linear g.randoms (length probes) f M set h.lengths h.linear in

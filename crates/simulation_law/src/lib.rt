@@ -7,8 +7,8 @@ ghost use Rattle.bit_lists.specs.BitLists.{chosen_sum};
 ghost use Rattle.gadget_model.specs.Circuit.{Circuit};
 ghost use Rattle.gadget_model.specs.Polynomials.{set_product};
 ghost use Rattle.gadget_model.specs.Simulation.{IsSimulatable, IsWithin};
-ghost use Rattle.simulation_law.specs.Linear.{IsLinear, RandomsCancel, linear_distribution};
-ghost use Rattle.simulation_law.specs.Elimination.{IsSimulatableFrom, IsFunctionOf, HasAdditiveRandoms};
+ghost use Rattle.simulation_law.specs.Linear.{IsLinear, linear_distribution};
+ghost use Rattle.simulation_law.specs.Elimination.{IsSimulatableFrom, IsFunctionOf, CancelledSumsAreFunctionsOf, HasAdditiveRandoms};
 
 /// Values of the form f(x) + M r, with any function f of the inputs and a linear map M of the
 /// randoms, are simulatable from a set of input shares exactly where each sum of chosen values in
@@ -17,7 +17,7 @@ pub fn elimination_law()
     ensures { (randoms values : ℕ) (f : (ℕ → Bool) → List Bool) (M : List Bool → List Bool) (set : ℕ) →
         ((x : ℕ → Bool) → length (f x) ≡ values) → IsLinear randoms values M →
         IsSimulatableFrom (λ x. linear_distribution randoms M (f x)) set
-        ↔ ((choice : List Bool) → length choice ≡ values → RandomsCancel randoms M choice → IsFunctionOf (λ x. chosen_sum choice (f x)) set) }
+        ↔ CancelledSumsAreFunctionsOf randoms values f M set }
 {}
 
 /// Probes that observe f(x) + M r, for the gadget's randoms r, are simulatable from a set of input
@@ -26,8 +26,7 @@ pub fn elimination_law()
 pub fn circuit_law()
     ensures { (g : Circuit) (probes : List ℕ) (f : (ℕ → Bool) → List Bool) (M : List Bool → List Bool) (set : ℕ) →
         HasAdditiveRandoms g probes f M →
-        IsSimulatable g probes set
-        ↔ ((choice : List Bool) → length choice ≡ length probes → RandomsCancel g.randoms M choice → IsFunctionOf (λ x. chosen_sum choice (f x)) set) }
+        IsSimulatable g probes set ↔ CancelledSumsAreFunctionsOf g.randoms (length probes) f M set }
 {}
 
 /// A sum of different products of input shares is a function of the shares in a set exactly where
@@ -36,5 +35,6 @@ pub fn products_law()
     ensures { (products : List ℕ) (choice : List Bool) (set : ℕ) →
         AllPairs (λ p q. p ≢ q) products → All (λ p. p < 2 ^ 64) products → length choice ≡ length products →
         IsFunctionOf (λ x. chosen_sum choice (map (λ p. set_product 64 p x) products)) set
-        ↔ ((j : ℕ) → j < length products → slice_index_or choice j false ≡ true → IsWithin (slice_index_or products j 0) set) }
+        ↔ ((j : ℕ) → j < length products → slice_index_or choice j false ≡ true →
+        IsWithin (slice_index_or products j 0) set) }
 {}
