@@ -9,3 +9,4 @@ pub mod SumsOver
 pub mod WirePolynomials
 pub mod PolynomialValues
 pub mod AllAssignments
+mod Examples
