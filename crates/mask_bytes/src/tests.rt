@@ -2,8 +2,8 @@
 ghost use Rattle.std.specs.Prelude.{◌≡◌, ◌≤◌};
 
 use crate::{
-    Failed, MemSink, MemSource, OutOfMemory, ReadError, StdSink, StdSource, SureSource, read_whole,
-    write_whole,
+    Failed, MemSink, MemSource, OutOfMemory, ReadError, Sink, Source, StdSink, StdSource,
+    SureSource, read_whole, write_whole,
 };
 use std::alloc::Global;
 use std::io;
@@ -35,6 +35,49 @@ impl Write for Broken {
         }
         self.used = true;
         Ok(buf.len().min(2))
+    }
+
+    fn flush(&mut self) -> io::Result<()> {
+        Ok(())
+    }
+}
+
+/// A reader that gives one byte at each call, and a writer that takes one, but for the first call, which
+/// fails or moves none.
+#[derive(Drop)]
+struct Late {
+    fails: bool,
+    calls: u32,
+}
+
+impl Late {
+    fn make(fails: bool) -> Late {
+        Late { fails, calls: 0 }
+    }
+
+    fn moved(&mut self) -> io::Result<usize> {
+        self.calls = self.calls.saturating_add(1);
+        if self.calls > 1 {
+            return Ok(1);
+        }
+        if self.fails {
+            return Err(io::Error::other("the first call fails"));
+        }
+        Ok(0)
+    }
+}
+
+impl Read for Late {
+    fn read(&mut self, buf: &mut [u8]) -> io::Result<usize> {
+        let count = self.moved()?;
+        Ok(count.min(buf.len()))
+    }
+}
+
+impl Write for Late {
+    fn write(&mut self, buf: &[u8]) -> io::Result<usize> {
+        let count = self.moved()?;
+        Ok(count.min(buf.len()))
     }
 
     fn flush(&mut self) -> io::Result<()> {
@@ -113,4 +156,30 @@ fn std_writers_are_sinks(rt: HostRuntime) -> Result<(), Fail> {
     let mut broken = StdSink::make(Broken { used: false });
     assert_eq!(rt; write_whole(&mut broken, b"share"), Err(Failed));
     Ok(())
+}
+
+#[test]
+fn a_source_calls_its_reader_once(rt: HostRuntime) {
+    let mut buf = [0u8; 4];
+    let mut late = Late::make(true);
+    let mut source = StdSource::make(&mut late);
+    assert_eq!(rt; source.read(&mut buf), Err(Failed));
+    assert_eq!(rt; source.read(&mut buf), Ok(1));
+    assert_eq!(rt; late.calls, 2);
+    let mut late = Late::make(false);
+    let mut source = StdSource::make(&mut late);
+    assert_eq!(rt; source.read(&mut buf), Ok(0));
+    assert_eq!(rt; source.read(&mut buf), Ok(1));
+    assert_eq!(rt; late.calls, 2);
+}
+
+#[test]
+fn a_sink_calls_its_writer_once(rt: HostRuntime) {
+    for fails in [true, false] {
+        let mut late = Late::make(fails);
+        let mut sink = StdSink::make(&mut late);
+        assert_eq!(rt; sink.write(b"share"), Err(Failed));
+        assert_eq!(rt; sink.write(b"share"), Ok(1));
+        assert_eq!(rt; late.calls, 2);
+    }
 }
