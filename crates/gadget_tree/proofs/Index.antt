@@ -24,6 +24,7 @@ use Rattle.gadget_model.specs.Circuit.{Variable}
 use Rattle.gadget_tree.specs.declared.var.Var.{Var}
 use Rattle.gadget_tree.specs.Seen.{FindsNames, variables_of, variable_of}
 use Rattle.gadget_tree.specs.Variables.{names_of, is_among, place_of}
+use Rattle.gadget_tree.proofs.Names.{length-names_of}
 
 ltb-suc : (a b : ℕ) → ltb (suc a) (suc b) ≡ ltb a b
 ltb-suc a b = grind (arith, nat_tests)
@@ -137,25 +138,18 @@ FindsNames-push entries now names key v h fresh e f = λ name.
     ∙ sym (position-push (bytes_eq name) names key.items
     (λ a b. let s : is_among names name ≡ false = ap (is_among names) ((bytes_eq-Decides name key.items).0 b) ∙ fresh in absurd cc))
 
--- how many names variables have
-pub length-names : (vars : List Var) → length (names_of (variables_of vars)) ≡ length vars
-length-names vars = length-map (variables_of vars) (λ (v : Variable). v.name) ∙ length-map vars variable_of
-
 -- what the index found
-pub number-among : (vars now : List Var) (name : List ℕ) (r : Option ℕ) → vars ≡ now → r ≡ position (bytes_eq name) (names_of (variables_of vars)) →
-    is_some r ≡ is_among (names_of (variables_of now)) name
-number-among vars now name r e f =
-    ap (λ (o : Option ℕ). is_some o) f ∙ is_some-position (bytes_eq name) (names_of (variables_of vars)) ∙ ap (λ (vs : List Var). is_among (names_of (variables_of vs)) name) e
+pub number-among : (vars now : List Variable) (name : List ℕ) (r : Option ℕ) → vars ≡ now → r ≡ position (bytes_eq name) (names_of vars) → is_some r ≡ is_among (names_of now) name
+number-among vars now name r e f = ap (λ (o : Option ℕ). is_some o) f ∙ is_some-position (bytes_eq name) (names_of vars) ∙ ap (λ (vs : List Variable). is_among (names_of vs) name) e
 
-pub number-at : (vars now : List Var) (name : List ℕ) (r : Option ℕ) → vars ≡ now → r ≡ position (bytes_eq name) (names_of (variables_of vars)) →
-    IfSome r (λ k. (k ≡ place_of (names_of (variables_of now)) name) × (k < length now))
+pub number-at : (vars now : List Variable) (name : List ℕ) (r : Option ℕ) → vars ≡ now → r ≡ position (bytes_eq name) (names_of vars) →
+    IfSome r (λ k. (k ≡ place_of (names_of now) name) × (k < length now))
 number-at vars now name r e f =
-    rw f (subst (λ (n : ℕ). IfSome (position (bytes_eq name) (names_of (variables_of vars))) (λ k. (k ≡ place_of (names_of (variables_of now)) name) × (k < n))) (length-names now)
-    (subst (λ (vs : List Var). IfSome (position (bytes_eq name) (names_of (variables_of vars))) (λ k. (k ≡ place_of (names_of (variables_of vs)) name) × (k < length (names_of (variables_of vs))))) e
-    (position-at (bytes_eq name) (names_of (variables_of vars)))))
+    rw (f, e) (subst (λ (n : ℕ). IfSome (position (bytes_eq name) (names_of now)) (λ k. (k ≡ place_of (names_of now) name) × (k < n))) (length-names_of now)
+    (position-at (bytes_eq name) (names_of now)))
 
 -- the names of one more variable
-pub names-push : (vars : List Var) (var : Var) → names_of (variables_of (vars ++ var ∷ [])) ≡ names_of (variables_of vars) ++ var.name ∷ []
+names-push : (vars : List Var) (var : Var) → names_of (variables_of (vars ++ var ∷ [])) ≡ names_of (variables_of vars) ++ var.name ∷ []
 names-push vars var = ap names_of (map-append variable_of vars (var ∷ [])) ∙ map-append (λ (v : Variable). v.name) (variables_of vars) (variable_of var ∷ [])
 
 -- the index with one more variable
@@ -164,15 +158,15 @@ pub index-push : (entries now : List (Vec ℕ Global × ℕ)) (vars more : List 
     FindsNames now (names_of (variables_of more))
 index-push entries now vars more var key number h fresh named e f g =
     subst (λ (names : List (List ℕ)). FindsNames now names) (ap (λ (w : List ℕ). names_of (variables_of vars) ++ w ∷ []) named ∙ sym (ap (λ (vs : List Var). names_of (variables_of vs)) g ∙ names-push vars var))
-    (FindsNames-push entries now (names_of (variables_of vars)) key number h (ap (is_among (names_of (variables_of vars))) named ∙ fresh) e (f ∙ sym (length-names vars)))
+    (FindsNames-push entries now (names_of (variables_of vars)) key number h (ap (is_among (names_of (variables_of vars))) named ∙ fresh) e (f ∙ sym (length-map vars variable_of) ∙ sym (length-names_of (variables_of vars))))
 
 -- the place that was found, or how many variables there are
-pub place-found : (now : List Var) (name : List ℕ) (r : Option ℕ) (n : ℕ) → is_some r ≡ is_among (names_of (variables_of now)) name → IfSome r (λ k. k ≡ place_of (names_of (variables_of now)) name) →
-    n ≡ length now → unwrap_or r n ≡ place_of (names_of (variables_of now)) name
+pub place-found : (now : List Variable) (name : List ℕ) (r : Option ℕ) (n : ℕ) → is_some r ≡ is_among (names_of now) name → IfSome r (λ k. k ≡ place_of (names_of now) name) → n ≡ length now →
+    unwrap_or r n ≡ place_of (names_of now) name
 place-found now name (Some k) n e f g = f
 place-found now name None n e f g =
-    let names = names_of (variables_of now) in
+    let names = names_of now in
     let h = ltb-false (position_or_len (bytes_eq name) names) (length names) (place-below (bytes_eq name) names ∙ sym e) in
     let k = prefix_len-le-length (λ x. not (bytes_eq name x)) names in
-    let m = length-names now in
+    let m = length-names_of now in
     omega arith

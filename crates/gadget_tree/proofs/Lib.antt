@@ -22,7 +22,6 @@ pub mod OutputShares
 pub mod MadeGadgets
 pub mod Pushes
 pub mod Saying
-pub mod SharesBelow
 pub mod SeenVariables
 pub mod MissingShares
 pub mod TreeValues
@@ -40,3 +39,5 @@ pub mod CanonicalText
 pub mod CanonicalVariables
 pub mod Canonical
 pub mod Printing
+pub mod Operands
+pub mod ShareIndices

@@ -2,7 +2,6 @@
 use Rattle.std.proofs.Common.{◌≡◌, ◌<◌, ◌≤◌, ◌+◌, ℕ, Bool, true, false, not, List, [], ◌∷◌, ◌++◌, length, map, refl, sym, ap, subst, ◌∙◌, ltb, inr}
 use Rattle.std.proofs.lemmas.Bool.{lt-ltb, le-ltb}
 use Rattle.std.specs.Prelude.{Option, Some, None, is_some, Result, Ok, Err, All}
-use Rattle.std.proofs.lemmas.List.{length-map}
 use Rattle.std.specs.List.{list_any, list_all}
 use Rattle.gadget_model.specs.Circuit.{Node, Variable}
 use Rattle.gadget_text.specs.declared.token.Header.{Header}
@@ -17,9 +16,8 @@ use Rattle.gadget_headers.specs.Headers.{header_of}
 use Rattle.gadget_grammar.specs.Grammar.{Tree, IsAssignment}
 use Rattle.gadget_grammar.specs.Nesting.{IsTooDeep}
 use Rattle.gadget_grammar.specs.Steps.{NamedStep, postfix}
-use Rattle.gadget_tree.specs.declared.var.Var.{Var}
 use Rattle.gadget_tree.specs.declared.var.VarKind.{VarKind}
-use Rattle.gadget_tree.specs.Seen.{node_of, variable_of, variables_of}
+use Rattle.gadget_tree.specs.Seen.{node_of}
 use Rattle.gadget_tree.specs.Variables.{names_of, is_among, place_of}
 use Rattle.gadget_tree.specs.Operations.{line_parts, leaves, made_variables}
 use Rattle.gadget_tree.specs.File.{with_line, AssignmentSays, LineSays, LinesSay}
@@ -89,29 +87,29 @@ assignment-says earlier line o r x y steps items e named same h f =
     )))
 
 -- what the kinds of a line are, where the code keeps them as a slice
-module _ (vars : List Var) (steps : List NamedStep) (kinds items : List VarKind) (t : Tree) (is_tree : steps ≡ postfix t) (same : kinds ≡ items)
-    (made : map node_of items ≡ nodes_made (place_of (names_of (variables_of vars))) (length vars) steps) where
-  as_nodes : map node_of kinds ≡ nodes_made (place_of (names_of (variables_of vars))) (length vars) steps
+module _ (vars : List Variable) (steps : List NamedStep) (kinds items : List VarKind) (t : Tree) (is_tree : steps ≡ postfix t) (same : kinds ≡ items)
+    (made : map node_of items ≡ nodes_made (place_of (names_of vars)) (length vars) steps) where
+  as_nodes : map node_of kinds ≡ nodes_made (place_of (names_of vars)) (length vars) steps
   as_nodes = ap (λ (ks : List VarKind). map node_of ks) same ∙ made
 
-  as_tree : map node_of kinds ≡ nodes_made (place_of (names_of (variables_of vars))) (length vars) (postfix t)
-  as_tree = as_nodes ∙ ap (nodes_made (place_of (names_of (variables_of vars))) (length vars)) is_tree
+  as_tree : map node_of kinds ≡ nodes_made (place_of (names_of vars)) (length vars) (postfix t)
+  as_tree = as_nodes ∙ ap (nodes_made (place_of (names_of vars)) (length vars)) is_tree
 
   -- how many they are
   pub length-kinds : length kinds ≡ count_made steps
-  length-kinds = kinds-count (place_of (names_of (variables_of vars))) (length vars) kinds t as_tree ∙ ap count_made (sym is_tree)
+  length-kinds = kinds-count (place_of (names_of vars)) (length vars) kinds t as_tree ∙ ap count_made (sym is_tree)
 
   -- none of them is a share or a random
   pub operations-kinds : All (λ kind. IsOperationNode (node_of kind)) kinds
-  operations-kinds = kinds-operations (place_of (names_of (variables_of vars))) (length vars) kinds t as_tree
+  operations-kinds = kinds-operations (place_of (names_of vars)) (length vars) kinds t as_tree
 
   -- the variables that they make
-  pub variables-kinds : (line : ℕ) (x : List ℕ) (now : List Variable) → now ≡ variables_of vars ++ made_variables line (names_made x (length kinds)) (map node_of kinds) →
-      now ≡ variables_of vars ++ made_variables line (names_made x (count_made steps)) (nodes_made (place_of (names_of (variables_of vars))) (length (variables_of vars)) steps)
+  pub variables-kinds : (line : ℕ) (x : List ℕ) (now : List Variable) → now ≡ vars ++ made_variables line (names_made x (length kinds)) (map node_of kinds) →
+      now ≡ vars ++ made_variables line (names_made x (count_made steps)) (nodes_made (place_of (names_of vars)) (length vars) steps)
   variables-kinds line x now e =
-      e ∙ ap (λ (n : ℕ). variables_of vars ++ made_variables line (names_made x n) (map node_of kinds)) length-kinds
-      ∙ ap (λ (ns : List Node). variables_of vars ++ made_variables line (names_made x (count_made steps)) ns)
-      (as_nodes ∙ ap (λ (n : ℕ). nodes_made (place_of (names_of (variables_of vars))) n steps) (sym (length-map vars variable_of)))
+      e ∙ ap (λ (n : ℕ). vars ++ made_variables line (names_made x n) (map node_of kinds)) length-kinds
+      ∙ ap (λ (ns : List Node). vars ++ made_variables line (names_made x (count_made steps)) ns)
+      as_nodes
 
 -- the lines of which the first says that the variables are these now
 pub lines-next : (earlier now : List Variable) (line : TokenLine) (lines rest : List TokenLine) (r : Result (List Variable) FileError) → lines ≡ line ∷ rest →

@@ -9,8 +9,6 @@ use Rattle.gadget_headers.specs.Errors.{unless, ◌>>=◌}
 use Rattle.gadget_headers.specs.Headers.{Listed, Preamble}
 use Rattle.gadget_headers.specs.Limits.{stems_of}
 use Rattle.gadget_headers.proofs.Results.{unless_gives, then_gives}
-use Rattle.gadget_tree.specs.declared.var.Var.{Var}
-use Rattle.gadget_tree.specs.Seen.{variable_of, variables_of}
 use Rattle.gadget_tree.specs.Variables.{share_names, names_of, is_among, are_distinct, AreDistinct, header_variables}
 use Rattle.gadget_tree.specs.File.{distinct_randoms, named_variables}
 use Rattle.gadget_tree.proofs.Names.{distinct_from_test, fresh_between}
@@ -47,10 +45,7 @@ named_distinct h start e =
     }
 
 -- each variable has a name that none before it has
-pub fresh_next : (vars before behind : List Var) (v : Var) → before ++ v ∷ behind ≡ vars → are_distinct (names_of (variables_of vars)) ≡ true → is_among (names_of (variables_of before)) v.name ≡ false
+pub fresh_next : (vars before behind : List Variable) (v : Variable) → before ++ v ∷ behind ≡ vars → are_distinct (names_of vars) ≡ true → is_among (names_of before) v.name ≡ false
 fresh_next vars before behind v e distinct =
-    let parts : names_of (variables_of vars) ≡ names_of (variables_of before) ++ v.name ∷ names_of (variables_of behind) =
-    ap (λ (vs : List Var). names_of (variables_of vs)) (sym e)
-    ∙ ap names_of (map-append variable_of before (v ∷ behind))
-    ∙ map-append (λ (x : Variable). x.name) (variables_of before) (variables_of (v ∷ behind)) in
-    fresh_between (names_of (variables_of before)) (names_of (variables_of behind)) v.name (ap are_distinct (sym parts) ∙ distinct)
+    let parts : names_of vars ≡ names_of before ++ v.name ∷ names_of behind = ap names_of (sym e) ∙ map-append (λ (x : Variable). x.name) before (v ∷ behind) in
+    fresh_between (names_of before) (names_of behind) v.name (ap are_distinct (sym parts) ∙ distinct)

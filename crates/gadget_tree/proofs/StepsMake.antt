@@ -135,7 +135,8 @@ known-postfix names (parens t) = known-postfix names t
 known-postfix names (sum_of a b) = known-append names a b sum refl (known-postfix names a) (known-postfix names b)
 known-postfix names (product_of a b) = known-append names a b product refl (known-postfix names a) (known-postfix names b)
 
-All-from_map : {X Y : Type 0} (P : Y → Type 0) (f : X → Y) (xs : List X) → All P (map f xs) → All (λ x. P (f x)) xs
+-- what holds of all images holds of the elements
+pub All-from_map : {X Y : Type 0} (P : Y → Type 0) (f : X → Y) (xs : List X) → All P (map f xs) → All (λ x. P (f x)) xs
 All-from_map P f [] h = All-nil (λ x. P (f x))
 All-from_map P f (x ∷ xs) h = All-cons (λ y. P (f y)) x xs (All-head P (f x) (map f xs) h) (All-from_map P f xs (All-tail P (f x) (map f xs) h))
 

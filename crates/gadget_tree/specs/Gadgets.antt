@@ -35,14 +35,10 @@ IsShareBelow inputs shares (Copy a) = Unit {0}
 IsShareBelow inputs shares (Sum a b) = Unit {0}
 IsShareBelow inputs shares (Product a b) = Unit {0}
 
--- a variable of such a kind
-abbrev pub HasShareBelow : ℕ → ℕ → Var → Type 0
-HasShareBelow inputs shares v = IsShareBelow inputs shares v.kind
-
 -- A variable that is a share has an input and an index of the gadget. With its number, 16 * input + index, that says which
 -- input and which index they are.
 abbrev pub HasShareOf : Circuit → Var → Type 0
-HasShareOf g v = HasShareBelow (length g.inputs) g.shares v
+HasShareOf g v = IsShareBelow (length g.inputs) g.shares v.kind
 
 -- a variable that is an operation, under a name that may be assigned
 pub record IsOperation (v : Variable) : Type 0 where

@@ -36,6 +36,12 @@ operation_count (product ∷ steps) = operation_count steps + 1
 abbrev pub count_made : List NamedStep → ℕ
 count_made steps = max (operation_count steps) 1
 
+-- how many of the values that wait a step takes
+abbrev pub operand_count : NamedStep → ℕ
+operand_count (name w) = 0
+operand_count sum = 2
+operand_count product = 2
+
 -- the name of a step, if it has one, is among these
 abbrev pub is_known : List (List ℕ) → NamedStep → Bool
 is_known names (name w) = is_among names w

@@ -7,8 +7,7 @@ ghost use Rattle.gadget_headers.specs.declared.file_error.FileError.TheVariants.
 ghost use Rattle.gadget_headers.specs.Limits.{KeepsLimits, stems_of};
 ghost use Rattle.gadget_headers.specs.Seen.{preamble_in, listed_in, AreHeadersWithin};
 ghost use Rattle.gadget_tree.specs.File.{FileSays, text_of, flat_gadget};
-ghost use Rattle.gadget_tree.specs.Gadgets.{IsGadget, HasShareBelow};
-ghost use Rattle.gadget_tree.specs.Seen.{variables_of};
+ghost use Rattle.gadget_tree.specs.Gadgets.{IsGadget};
 
 use crate::gadget::{Gadget, Parts};
 use crate::line::with_lines;
@@ -61,10 +60,9 @@ fn flat_gadget(
     variables: Variables,
 ) -> Result<Gadget, AllocError>
     requires within { AreHeadersWithin (length bytes.now) headers.now }
-    requires numbers { output_shares.items ≡ (flat_gadget (preamble_in bytes.now headers.now) (variables_of variables)).output_shares }
-    requires gadget { IsGadget (flat_gadget (preamble_in bytes.now headers.now) (variables_of variables)) }
-    requires shares { All (HasShareBelow (length headers.now.inputs.words.now) headers.now.shares) variables }
-    ensures { IfOk result (λ g. g ≡ flat_gadget (preamble_in bytes.now headers.now) (variables_of variables)) }
+    requires numbers { output_shares.items ≡ (flat_gadget (preamble_in bytes.now headers.now) variables).output_shares }
+    requires gadget { IsGadget (flat_gadget (preamble_in bytes.now headers.now) variables) }
+    ensures { IfOk result (λ g. g ≡ flat_gadget (preamble_in bytes.now headers.now) variables) }
 {
     Ok(Gadget::new(Parts {
         shares: headers.shares,

@@ -3,7 +3,7 @@
 ghost use Rattle.std.specs.Prelude.{◌≤◌, ◌≡◌, ℕ, ◌+◌, ◌*◌, ◌/◌, ◌%◌, ◌<◌, map, length, slice_index, All, Option};
 ghost use Rattle.gadget_model.specs.Circuit.{Circuit};
 ghost use Rattle.gadget_tree.specs.Seen.{variables_of};
-ghost use Rattle.gadget_tree.specs.Gadgets.{IsGadget, HasShareBelow, HasShareOf, IsOutOf};
+ghost use Rattle.gadget_tree.specs.Gadgets.{IsGadget, HasShareOf, IsOutOf};
 ghost use Rattle.gadget_tree.specs.Inside.{circuit_of_parts};
 
 use crate::name::Name;
@@ -22,17 +22,16 @@ pub struct Gadget {
 }
 
 impl Model for Gadget {
-    ghost use Rattle.std.specs.Prelude.{All};
     ghost use Rattle.gadget_model.specs.Circuit.{Circuit};
 
     ghost Value = { Circuit };
 
     ghost use Rattle.gadget_tree.specs.Inside.{circuit_of};
-    ghost use Rattle.gadget_tree.specs.Gadgets.{IsGadget, HasShareOf};
+    ghost use Rattle.gadget_tree.specs.Gadgets.{IsGadget};
 
     ghost view = { circuit_of };
 
-    ghost invariant = { λ g. IsGadget (circuit_of g) × All (HasShareOf (circuit_of g)) g.vars.items };
+    ghost invariant = { λ g. IsGadget (circuit_of g) };
 }
 
 /// The parts of a gadget.
@@ -49,8 +48,7 @@ pub(crate) struct Parts {
 impl Gadget {
     /// A gadget with these parts.
     pub(crate) fn new(parts: Parts) -> Gadget
-        requires gadget { IsGadget (circuit_of_parts parts) }
-        requires shares { All (HasShareBelow (length parts.inputs.items) parts.shares) parts.vars.items }
+        requires { IsGadget (circuit_of_parts parts) }
         ensures { result ≡ circuit_of_parts parts }
     {
         let Parts {

@@ -5,7 +5,6 @@ ghost use Rattle.gadget_text.specs.Places.{IsWithin, text_in};
 ghost use Rattle.gadget_headers.specs.Limits.{KeepsLimits};
 ghost use Rattle.gadget_headers.specs.Seen.{preamble_in, AreHeadersWithin};
 ghost use Rattle.gadget_tree.specs.Variables.{shares_of_input, share_variables, random_variables, header_variables};
-ghost use Rattle.gadget_tree.specs.Gadgets.{HasShareBelow};
 ghost use Rattle.gadget_tree.specs.Seen.{variables_of};
 
 use crate::name::Name;
@@ -24,8 +23,8 @@ fn push_shares(
     input: u8,
     stem: &[u8],
 ) -> Result<(), AllocError>
-    ensures variables { OnOk result (variables_of vars.new.items ≡ variables_of vars.old.items ++ shares_of_input line shares input stem.now) }
-    ensures shares { OnOk result ((inputs : ℕ) → input < inputs → All (HasShareBelow inputs shares) vars.old.items → All (HasShareBelow inputs shares) vars.new.items) }
+    requires { shares ≤ 16 }
+    ensures { OnOk result (variables_of vars.new.items ≡ variables_of vars.old.items ++ shares_of_input line shares input stem.now) }
 {
     for index in 0..shares {
         vars.push(Var {
@@ -46,8 +45,8 @@ fn share_vars(
 ) -> Result<Vec<Var>, AllocError>
     requires within { All (IsWithin (length bytes.now)) inputs.words.now }
     requires few { length inputs.words.now ≤ 4 }
-    ensures variables { IfOk result (λ v. variables_of v.items ≡ share_variables inputs.entry.line shares 0 (map (text_in bytes.now) inputs.entry.words.now)) }
-    ensures shares { IfOk result (λ v. All (HasShareBelow (length inputs.entry.words.now) shares) v.items) }
+    requires few_shares { shares ≤ 16 }
+    ensures { IfOk result (λ v. variables_of v.items ≡ share_variables inputs.entry.line shares 0 (map (text_in bytes.now) inputs.entry.words.now)) }
 {
     let mut vars = Vec::new(alloc);
     for (input, stem) in inputs.words.iter().enumerate() {
@@ -73,8 +72,7 @@ fn extend_randoms(
 ) -> Result<(), AllocError>
     requires within { All (IsWithin (length bytes.now)) randoms.now }
     requires few { length randoms.now ≤ 128 }
-    ensures variables { OnOk result (variables_of vars.new.items ≡ variables_of vars.old.items ++ random_variables line 0 (map (text_in bytes.now) randoms.now)) }
-    ensures shares { OnOk result ((inputs shares : ℕ) → All (HasShareBelow inputs shares) vars.old.items → All (HasShareBelow inputs shares) vars.new.items) }
+    ensures { OnOk result (variables_of vars.new.items ≡ variables_of vars.old.items ++ random_variables line 0 (map (text_in bytes.now) randoms.now)) }
 {
     for (place, random) in randoms.iter().enumerate() {
         vars.push(Var {
@@ -94,8 +92,7 @@ pub(crate) fn header_vars(
 ) -> Result<Vec<Var>, AllocError>
     requires within { AreHeadersWithin (length bytes.now) headers.now }
     requires limits { KeepsLimits (preamble_in bytes.now headers.now) }
-    ensures variables { IfOk result (λ v. variables_of v.items ≡ header_variables (preamble_in bytes.now headers.now)) }
-    ensures shares { IfOk result (λ v. All (HasShareBelow (length headers.now.inputs.words.now) headers.now.shares) v.items) }
+    ensures { IfOk result (λ v. variables_of v.items ≡ header_variables (preamble_in bytes.now headers.now)) }
 {
     let mut vars = share_vars(alloc, bytes, headers.shares, headers.inputs)?;
     if let Some(randoms) = headers.randoms {

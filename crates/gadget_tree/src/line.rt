@@ -9,10 +9,10 @@ ghost use Rattle.gadget_grammar.specs.Grammar.{Tree};
 ghost use Rattle.gadget_grammar.specs.Seen.{IsStepWithin, steps_in};
 ghost use Rattle.gadget_grammar.specs.Steps.{postfix};
 ghost use Rattle.gadget_tree.specs.File.{LineSays, LinesSay};
-ghost use Rattle.gadget_tree.specs.Gadgets.{HasShareBelow, IsOperationNode};
+ghost use Rattle.gadget_tree.specs.Gadgets.{IsOperationNode};
 ghost use Rattle.gadget_tree.specs.Made.{names_made, with_steps};
 ghost use Rattle.gadget_tree.specs.Operations.{made_variables};
-ghost use Rattle.gadget_tree.specs.Seen.{node_of, variables_of, line_of};
+ghost use Rattle.gadget_tree.specs.Seen.{node_of, line_of};
 ghost use Rattle.gadget_tree.specs.Variables.{names_of, is_among};
 
 use crate::inner_names::{is_some_taken, name_made};
@@ -33,11 +33,10 @@ fn with_kinds(
     kinds: &[VarKind],
     variables: Variables,
 ) -> Result<Variables, AllocError>
-    requires fresh { list_any (is_among (names_of (variables_of variables))) (names_made name.now (length kinds.now)) ≡ false }
+    requires fresh { list_any (is_among (names_of variables)) (names_made name.now (length kinds.now)) ≡ false }
     requires room { length variables + length kinds.now ≤ 511 }
     requires operations { All (λ kind. IsOperationNode (node_of kind)) kinds.now }
-    ensures made { IfOk result (λ v. variables_of v ≡ variables_of variables ++ made_variables line (names_made name.now (length kinds.now)) (map node_of kinds.now)) }
-    ensures shares { IfOk result (λ v. (inputs shares : ℕ) → All (HasShareBelow inputs shares) variables → All (HasShareBelow inputs shares) v) }
+    ensures { IfOk result (λ v. v ≡ variables ++ made_variables line (names_made name.now (length kinds.now)) (map node_of kinds.now)) }
 {
     let mut now = variables;
     for (k, kind) in kinds.iter().enumerate() {
@@ -63,9 +62,8 @@ fn with_steps(
 ) -> Result<Variables, FileError>
     requires within { All (IsStepWithin (length bytes.now)) steps.now }
     requires tree { (tree : Tree) × (steps_in bytes.now steps.now ≡ postfix tree) }
-    ensures ok { IfOk result (λ v. with_steps line (variables_of variables) name.now (steps_in bytes.now steps.now) ≡ Ok (variables_of v)) }
-    ensures refused { IfErr result (λ e. e ≢ OutOfMemory → with_steps line (variables_of variables) name.now (steps_in bytes.now steps.now) ≡ Err e) }
-    ensures shares { IfOk result (λ v. (inputs shares : ℕ) → All (HasShareBelow inputs shares) variables → All (HasShareBelow inputs shares) v) }
+    ensures ok { IfOk result (λ v. with_steps line variables name.now (steps_in bytes.now steps.now) ≡ Ok v) }
+    ensures refused { IfErr result (λ e. e ≢ OutOfMemory → with_steps line variables name.now (steps_in bytes.now steps.now) ≡ Err e) }
 {
     let count = count_made(steps);
     if is_some_taken(&variables, name, count) {
@@ -101,9 +99,8 @@ fn with_line(
 ) -> Result<Variables, FileError>
     requires within { All (IsWithin (length bytes.now)) line.now.tokens.now }
     requires some { 0 < length line.now.tokens.now }
-    ensures ok { IfOk result (λ v. LineSays (variables_of variables) (line_of bytes.now line.now) (header_of (lexemes_in bytes.now line.now.tokens.now)) (Ok (variables_of v))) }
-    ensures refused { IfErr result (λ e. e ≢ OutOfMemory → LineSays (variables_of variables) (line_of bytes.now line.now) (header_of (lexemes_in bytes.now line.now.tokens.now)) (Err e)) }
-    ensures shares { IfOk result (λ v. (inputs shares : ℕ) → All (HasShareBelow inputs shares) variables → All (HasShareBelow inputs shares) v) }
+    ensures ok { IfOk result (λ v. LineSays variables (line_of bytes.now line.now) (header_of (lexemes_in bytes.now line.now.tokens.now)) (Ok v)) }
+    ensures refused { IfErr result (λ e. e ≢ OutOfMemory → LineSays variables (line_of bytes.now line.now) (header_of (lexemes_in bytes.now line.now.tokens.now)) (Err e)) }
 {
     if is_header(line.tokens) {
         return Err(FileError::Syntax(line.line));
@@ -129,9 +126,8 @@ pub(crate) fn with_lines(
     variables: Variables,
 ) -> Result<Variables, FileError>
     requires within { All (IsWithin (length bytes.now)) tokens.now }
-    ensures ok { IfOk result (λ v. LinesSay (variables_of variables) (lines_in bytes.now tokens.now) (Ok (variables_of v))) }
-    ensures refused { IfErr result (λ e. e ≢ OutOfMemory → LinesSay (variables_of variables) (lines_in bytes.now tokens.now) (Err e)) }
-    ensures shares { IfOk result (λ v. (inputs shares : ℕ) → All (HasShareBelow inputs shares) variables → All (HasShareBelow inputs shares) v) }
+    ensures ok { IfOk result (λ v. LinesSay variables (lines_in bytes.now tokens.now) (Ok v)) }
+    ensures refused { IfErr result (λ e. e ≢ OutOfMemory → LinesSay variables (lines_in bytes.now tokens.now) (Err e)) }
 {
     let mut rest = tokens;
     let mut now = variables;

@@ -1,9 +1,11 @@
 //! The kinds of the variables that a line makes, found with a stack.
 
-ghost use Rattle.std.specs.Prelude.{◌≡◌, ◌≤◌, ◌<◌, ◌+◌, ◌++◌, All, IfOk, OnOk, IfSome, IfNone, length, map, reverse, [], ◌∷◌};
+ghost use Rattle.std.specs.Prelude.{◌≡◌, ◌≤◌, ◌<◌, ◌+◌, ◌++◌, All, IfOk, OnOk, length, map, reverse, [], ◌∷◌};
+ghost use Rattle.gadget_grammar.specs.Grammar.{Tree};
+ghost use Rattle.gadget_grammar.specs.Steps.{postfix};
 ghost use Rattle.gadget_grammar.specs.Seen.{IsStepWithin, step_in, steps_in};
-ghost use Rattle.gadget_tree.specs.Made.{operation_count, count_made, with_node, after_step, after_steps, start, finished, nodes_made, making_of};
-ghost use Rattle.gadget_tree.specs.Seen.{variables_of, node_of};
+ghost use Rattle.gadget_tree.specs.Made.{operation_count, operand_count, count_made, with_node, after_step, after_steps, start, finished, nodes_made, making_of};
+ghost use Rattle.gadget_tree.specs.Seen.{node_of};
 ghost use Rattle.gadget_tree.specs.Variables.{names_of, place_of};
 
 use crate::var::VarKind;
@@ -20,17 +22,14 @@ struct Making {
     kinds: Vec<VarKind>,
 }
 
-// Takes the last two numbers off a stack that has two, in the order in which they stand.
-fn pop_two(stack: &mut Vec<u16>) -> Option<(u16, u16)>
-    ensures some { IfSome result (λ p. stack.old.items ≡ stack.new.items ++ p.0 ∷ p.1 ∷ []) }
-    ensures none { IfNone result ((length stack.old.items < 2) × (stack.new.items ≡ stack.old.items)) }
+// Takes the last two numbers off a stack, in the order in which they stand.
+fn pop_two(stack: &mut Vec<u16>) -> (u16, u16)
+    requires { 2 ≤ length stack.old.items }
+    ensures { stack.old.items ≡ stack.new.items ++ result.0 ∷ result.1 ∷ [] }
 {
-    if stack.len() < 2 {
-        return None;
-    }
-    let right = stack.pop()?;
-    let left = stack.pop()?;
-    Some((left, right))
+    let right = stack.pop().unwrap();
+    let left = stack.pop().unwrap();
+    (left, right)
 }
 
 impl Making {
@@ -59,7 +58,8 @@ impl Making {
     fn advance(&mut self, bytes: &[u8], variables: &Variables, step: Step) -> Result<(), AllocError>
         requires within { IsStepWithin (length bytes.now) step }
         requires room { length variables.now + length self.old.kinds.items < 512 }
-        ensures { OnOk result (making_of self.new ≡ after_step (place_of (names_of (variables_of variables.now))) (length variables.now) (making_of self.old) (step_in bytes.now step)) }
+        requires operands { operand_count (step_in bytes.now step) ≤ length self.old.stack.items }
+        ensures { OnOk result (making_of self.new ≡ after_step (place_of (names_of variables.now)) (length variables.now) (making_of self.old) (step_in bytes.now step)) }
     {
         let base = variables.len();
         match step {
@@ -68,15 +68,11 @@ impl Making {
                 Ok(())
             }
             Step::Sum => {
-                let Some((left, right)) = pop_two(&mut self.stack) else {
-                    return Ok(());
-                };
+                let (left, right) = pop_two(&mut self.stack);
                 self.put(base, VarKind::Sum(left, right))
             }
             Step::Product => {
-                let Some((left, right)) = pop_two(&mut self.stack) else {
-                    return Ok(());
-                };
+                let (left, right) = pop_two(&mut self.stack);
                 self.put(base, VarKind::Product(left, right))
             }
         }
@@ -84,24 +80,21 @@ impl Making {
 
     // The kinds, or else a copy of the variable that waits.
     fn finish(self) -> Result<Vec<VarKind>, AllocError>
+        requires { 0 < length self.stack.items }
         ensures { IfOk result (λ v. map node_of v.items ≡ finished (making_of self)) }
     {
         let Making {
             mut stack,
             mut kinds,
         } = self;
-        if !kinds.is_empty() {
-            return Ok(kinds);
+        if kinds.is_empty() {
+            kinds.push(VarKind::Copy(stack.pop().unwrap()))?;
         }
-        let Some(last) = stack.pop() else {
-            return Ok(kinds);
-        };
-        kinds.push(VarKind::Copy(last))?;
         Ok(kinds)
     }
 }
 
-/// The kinds of the variables that a line with these steps makes, in post-order, where these are the variables before it.
+/// The kinds of the variables that a line with the steps of a tree makes, in post-order, where these are the variables before it.
 pub(crate) fn kinds_made(
     alloc: Global,
     bytes: &[u8],
@@ -109,8 +102,9 @@ pub(crate) fn kinds_made(
     steps: &[Step],
 ) -> Result<Vec<VarKind>, AllocError>
     requires within { All (IsStepWithin (length bytes.now)) steps.now }
+    requires tree { (tree : Tree) × (steps_in bytes.now steps.now ≡ postfix tree) }
     requires room { length variables.now + count_made (steps_in bytes.now steps.now) ≤ 511 }
-    ensures { IfOk result (λ v. map node_of v.items ≡ nodes_made (place_of (names_of (variables_of variables.now))) (length variables.now) (steps_in bytes.now steps.now)) }
+    ensures { IfOk result (λ v. map node_of v.items ≡ nodes_made (place_of (names_of variables.now)) (length variables.now) (steps_in bytes.now steps.now)) }
 {
     let mut making = Making::new(alloc);
     for step in steps {

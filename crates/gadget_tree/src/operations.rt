@@ -5,7 +5,6 @@ ghost use Rattle.std.specs.List.{list_all};
 ghost use Rattle.gadget_text.specs.Places.{IsWithin, text_in};
 ghost use Rattle.gadget_grammar.specs.Seen.{IsStepWithin, step_in, steps_in};
 ghost use Rattle.gadget_tree.specs.Made.{operation_count, count_made, is_known};
-ghost use Rattle.gadget_tree.specs.Seen.{variables_of};
 ghost use Rattle.gadget_tree.specs.Variables.{names_of};
 
 use crate::variables::Variables;
@@ -36,7 +35,7 @@ pub(crate) fn count_made(steps: &[Step]) -> usize
 // Whether the name of a step, if it has one, stands for something.
 fn is_known(bytes: &[u8], variables: &Variables, step: Step) -> bool
     requires { IsStepWithin (length bytes.now) step }
-    ensures { result ≡ is_known (names_of (variables_of variables.now)) (step_in bytes.now step) }
+    ensures { result ≡ is_known (names_of variables.now) (step_in bytes.now step) }
 {
     match step {
         Step::Name(token) => variables.has(text(bytes, token)),
@@ -47,7 +46,7 @@ fn is_known(bytes: &[u8], variables: &Variables, step: Step) -> bool
 /// Whether each name in the steps stands for something.
 pub(crate) fn are_known(bytes: &[u8], variables: &Variables, steps: &[Step]) -> bool
     requires { All (IsStepWithin (length bytes.now)) steps.now }
-    ensures { result ≡ list_all (is_known (names_of (variables_of variables.now))) (steps_in bytes.now steps.now) }
+    ensures { result ≡ list_all (is_known (names_of variables.now)) (steps_in bytes.now steps.now) }
 {
     for step in steps {
         if !is_known(bytes, variables, *step) {

@@ -5,7 +5,6 @@ ghost use Rattle.gadget_headers.specs.declared.file_error.FileError.TheVariants.
 ghost use Rattle.gadget_headers.specs.Limits.{KeepsLimits};
 ghost use Rattle.gadget_headers.specs.Seen.{preamble_in, listed_in, AreWordsWithin, AreHeadersWithin};
 ghost use Rattle.gadget_tree.specs.File.{distinct_randoms, named_variables};
-ghost use Rattle.gadget_tree.specs.Gadgets.{HasShareBelow};
 ghost use Rattle.gadget_tree.specs.Seen.{variables_of};
 ghost use Rattle.gadget_tree.specs.Named.{distinct_shares};
 ghost use Rattle.gadget_tree.specs.Variables.{names_of, are_distinct, header_variables};
@@ -80,7 +79,7 @@ fn check_names(alloc: Global, bytes: &[u8], headers: &Headers<'_>) -> Result<(),
 fn indexed(alloc: Global, vars: Vec<Var>) -> Result<Variables, AllocError>
     requires distinct { are_distinct (names_of (variables_of vars.items)) ≡ true }
     requires few { length vars.items ≤ 511 }
-    ensures { IfOk result (λ v. v ≡ vars.items) }
+    ensures { IfOk result (λ v. v ≡ variables_of vars.items) }
 {
     let mut variables = Variables::new(alloc);
     for var in vars {
@@ -97,9 +96,8 @@ pub(crate) fn named_variables(
 ) -> Result<Variables, FileError>
     requires within { AreHeadersWithin (length bytes.now) headers.now }
     requires limits { KeepsLimits (preamble_in bytes.now headers.now) }
-    ensures ok { IfOk result (λ v. named_variables (preamble_in bytes.now headers.now) ≡ Ok (variables_of v)) }
+    ensures ok { IfOk result (λ v. named_variables (preamble_in bytes.now headers.now) ≡ Ok v) }
     ensures refused { IfErr result (λ e. e ≢ OutOfMemory → named_variables (preamble_in bytes.now headers.now) ≡ Err e) }
-    ensures shares { IfOk result (λ v. All (HasShareBelow (length headers.now.inputs.words.now) headers.now.shares) v) }
 {
     check_names(alloc, bytes, headers)?;
     let vars = header_vars(alloc, bytes, headers)?;

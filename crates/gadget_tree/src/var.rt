@@ -1,5 +1,8 @@
 //! Variables: the wires of a gadget.
 
+ghost use Rattle.std.specs.Prelude.{ℕ, ◌≡◌, ◌<◌};
+ghost use Rattle.gadget_tree.specs.declared.var.VarKind.TheVariants.{Share};
+
 use crate::name::Name;
 
 /// How a variable gets its value. Operands are numbers of earlier variables.
@@ -24,4 +27,6 @@ pub struct Var {
     pub kind: VarKind,
     /// The line that made it, counted from 1; that of a share is the line of its header.
     pub line: u32,
+    // The number of a share, 16 * input + index, then has one input and one index.
+    ghost share_index: { (input index : ℕ) → kind ≡ Share input index → index < 16 },
 }

@@ -1,7 +1,7 @@
 //! The variables so far, found by their names.
 
 ghost use Rattle.std.specs.Prelude.{◌≡◌, ◌≤◌, ◌<◌, ◌++◌, ◌∷◌, [], Bool, false, is_some, length, IfOk, IfSome};
-ghost use Rattle.gadget_tree.specs.Seen.{variables_of};
+ghost use Rattle.gadget_tree.specs.Seen.{variable_of, variables_of};
 ghost use Rattle.gadget_tree.specs.Variables.{names_of, is_among, place_of};
 
 use crate::var::Var;
@@ -9,7 +9,7 @@ use std::alloc::{AllocError, Global};
 use std::collections::BTreeMap;
 use std::marker::Model;
 
-/// The variables so far, at most 511. Contracts see their list.
+/// The variables so far, at most 511. Contracts see the model's list of them.
 #[derive(Drop)]
 pub(crate) struct Variables {
     vars: Vec<Var>,
@@ -18,14 +18,14 @@ pub(crate) struct Variables {
 
 impl Model for Variables {
     ghost use Rattle.std.specs.Prelude.{List, ◌≤◌, length};
-    ghost use Rattle.gadget_tree.specs.declared.var.Var.{Var};
+    ghost use Rattle.gadget_model.specs.Circuit.{Variable};
 
-    ghost Value = { List Var };
+    ghost Value = { List Variable };
 
     ghost use Rattle.gadget_tree.specs.Seen.{variables_of, FindsNames};
     ghost use Rattle.gadget_tree.specs.Variables.{names_of};
 
-    ghost view = { λ s. s.vars.items };
+    ghost view = { λ s. variables_of s.vars.items };
 
     ghost invariant = { λ s. FindsNames s.numbers.entries (names_of (variables_of s.vars.items)) × (length s.vars.items ≤ 511) };
 }
@@ -51,8 +51,8 @@ impl Variables {
 
     /// The number of the variable with a name. Time is logarithmic in how many there are.
     pub(crate) fn number(&self, name: &[u8]) -> Option<u16>
-        ensures among { is_some result ≡ is_among (names_of (variables_of self.now)) name.now }
-        ensures place { IfSome result (λ k. k ≡ place_of (names_of (variables_of self.now)) name.now) }
+        ensures among { is_some result ≡ is_among (names_of self.now) name.now }
+        ensures place { IfSome result (λ k. k ≡ place_of (names_of self.now) name.now) }
         ensures below { IfSome result (λ k. k < length self.now) }
     {
         self.numbers.get(name).copied()
@@ -60,23 +60,23 @@ impl Variables {
 
     /// Whether a name stands for something already.
     pub(crate) fn has(&self, name: &[u8]) -> bool
-        ensures { result ≡ is_among (names_of (variables_of self.now)) name.now }
+        ensures { result ≡ is_among (names_of self.now) name.now }
     {
         self.number(name).is_some()
     }
 
     /// The number of the variable with a name, or how many there are where none has it.
     pub(crate) fn place(&self, name: &[u8]) -> u16
-        ensures { result ≡ place_of (names_of (variables_of self.now)) name.now }
+        ensures { result ≡ place_of (names_of self.now) name.now }
     {
         self.number(name).unwrap_or(self.len() as u16)
     }
 
     /// These variables, and behind them one more.
     pub(crate) fn with(self, var: Var) -> Result<Variables, AllocError>
-        requires fresh { is_among (names_of (variables_of self)) var.name ≡ false }
+        requires fresh { is_among (names_of self) var.name ≡ false }
         requires room { length self < 511 }
-        ensures { IfOk result (λ s. s ≡ self ++ var ∷ []) }
+        ensures { IfOk result (λ s. s ≡ self ++ variable_of var ∷ []) }
     {
         let Variables {
             mut vars,
@@ -91,14 +91,14 @@ impl Variables {
 
     /// The variables, in order.
     pub(crate) fn as_slice(&self) -> &[Var]
-        ensures { result.now ≡ self.now }
+        ensures { variables_of result.now ≡ self.now }
     {
         &self.vars
     }
 
     /// The variables, in order, without their index.
     pub(crate) fn into_vars(self) -> Vec<Var>
-        ensures { result.items ≡ self }
+        ensures { variables_of result.items ≡ self }
     {
         self.vars
     }

@@ -6,24 +6,24 @@ use Rattle.gadget_headers.specs.Headers.{header_of}
 use Rattle.gadget_grammar.specs.Seen.{steps_in}
 use Rattle.gadget_tree.specs.File.{LineSays}
 use Rattle.gadget_tree.specs.Made.{with_steps}
-use Rattle.gadget_tree.specs.Seen.{line_of, variables_of}
+use Rattle.gadget_tree.specs.Seen.{line_of}
 use Rattle.gadget_tree.proofs.LineAnswers.{assignment-says}
 use Rattle.gadget_tree.proofs.line.with_line.Goals as goal
 
 pub returns-in-Ok-clause-ok : goal.returns-in-Ok-clause-ok
 returns-in-Ok-clause-ok c =
-    let earlier = variables_of c.args.variables in
+    let earlier = c.args.variables in
     let line = line_of c.args.bytes.now c.args.line.now in
     let name = c.text-name.result.now in
     let steps = steps_in c.args.bytes.now c.deref.result.now in
     let same = ap (steps_in c.args.bytes.now) c.deref.ensures.value in
     let other = sym (c.is_header.ensures c.args.bytes.now) ∙ c.if-is_header.false in
-    IfOk-weaker c.with_steps.result (λ v. with_steps line.number earlier name steps ≡ Ok (variables_of v)) (λ v. LineSays earlier line (header_of line.lexemes) (Ok (variables_of v)))
-    (λ v e. assignment-says earlier line (header_of line.lexemes) (Ok (variables_of v)) (text_in c.args.bytes.now c.in-Ok.says.name) name (steps_in c.args.bytes.now c.in-Ok.says.steps.items) steps other c.text-name.ensures same c.in-Ok.ensures.says e) c.with_steps.ensures.ok
+    IfOk-weaker c.with_steps.result (λ v. with_steps line.number earlier name steps ≡ Ok v) (λ v. LineSays earlier line (header_of line.lexemes) (Ok v))
+    (λ v e. assignment-says earlier line (header_of line.lexemes) (Ok v) (text_in c.args.bytes.now c.in-Ok.says.name) name (steps_in c.args.bytes.now c.in-Ok.says.steps.items) steps other c.text-name.ensures same c.in-Ok.ensures.says e) c.with_steps.ensures.ok
 
 pub returns-in-Ok-clause-refused : goal.returns-in-Ok-clause-refused
 returns-in-Ok-clause-refused c =
-    let earlier = variables_of c.args.variables in
+    let earlier = c.args.variables in
     let line = line_of c.args.bytes.now c.args.line.now in
     let name = c.text-name.result.now in
     let steps = steps_in c.args.bytes.now c.deref.result.now in

@@ -5,7 +5,7 @@ use Rattle.std.proofs.lemmas.List.Elements.{All-drop}
 use Rattle.std.proofs.lemmas.Result.{err_from_is_err_and}
 use Rattle.gadget_text.specs.declared.token.Token.{Token}
 use Rattle.gadget_text.specs.Places.{IsWithin, lines_in}
-use Rattle.gadget_tree.specs.Seen.{line_of, variables_of}
+use Rattle.gadget_tree.specs.Seen.{line_of}
 use Rattle.gadget_tree.proofs.LineAnswers.{lines-next, lines-refused, lines-end}
 use Rattle.gadget_tree.proofs.line.with_lines.Goals as goal
 
@@ -14,7 +14,7 @@ returns-in_err-now-clause-refused c =
     let p = err_from_is_err_and c.from_residual.result c.from_residual.ensures.1 in
     rw (p.1, p.2) (λ other.
     c.loop-line.invariant.says (Err c.in_err-now.field-0.0)
-    (lines-refused (variables_of c.loop-line.now) (line_of c.args.bytes.now c.in-Some.line) (lines_in c.args.bytes.now c.loop-line.rest.now) (lines_in c.args.bytes.now c.in-Some.line.rest.now) c.in_err-now.field-0.0
+    (lines-refused c.loop-line.now (line_of c.args.bytes.now c.in-Some.line) (lines_in c.args.bytes.now c.loop-line.rest.now) (lines_in c.args.bytes.now c.in-Some.line.rest.now) c.in_err-now.field-0.0
     (c.in-Some.ensures.line c.args.bytes.now) (c.in_err-now.ensures.refused other)))
 
 pub loop-line-preserved : goal.loop-line-preserved
@@ -23,10 +23,9 @@ loop-line-preserved c = record {
       (All-drop (IsWithin (length c.args.bytes.now)) (length c.in-Some.line.tokens.now) (c.in-Some.line.tokens.now ++ c.in-Some.line.rest.now)
       (subst (λ (ts : List Token). All (IsWithin (length c.args.bytes.now)) ts) (sym c.in-Some.ensures.parts) c.loop-line.invariant.within));
   says = λ r h. c.loop-line.invariant.says r
-      (lines-next (variables_of c.loop-line.now) (variables_of c.in_ok-now.now) (line_of c.args.bytes.now c.in-Some.line) (lines_in c.args.bytes.now c.loop-line.rest.now)
+      (lines-next c.loop-line.now c.in_ok-now.now (line_of c.args.bytes.now c.in-Some.line) (lines_in c.args.bytes.now c.loop-line.rest.now)
       (lines_in c.args.bytes.now c.in-Some.line.rest.now) r (c.in-Some.ensures.line c.args.bytes.now) c.in_ok-now.ensures.ok h);
-  shares = λ inputs shares h. c.in_ok-now.ensures.shares inputs shares (c.loop-line.invariant.shares inputs shares h);
 }
 
 pub returns-clause-ok : goal.returns-clause-ok
-returns-clause-ok c = c.loop-line.invariant.says (Ok (variables_of c.loop-line.now)) (lines-end c.args.bytes.now (variables_of c.loop-line.now) c.loop-line.rest.now c.in_default.ensures.none)
+returns-clause-ok c = c.loop-line.invariant.says (Ok c.loop-line.now) (lines-end c.args.bytes.now c.loop-line.now c.loop-line.rest.now c.in_default.ensures.none)

@@ -1,8 +1,6 @@
 use Rattle.std.proofs.Common.{◌≡◌, Bool, true, false, ℕ, List, length, sym, ap, ◌∙◌, arith}
 use Rattle.std.specs.List.{list_any}
-use Rattle.std.proofs.lemmas.List.{length-map}
 use Rattle.gadget_grammar.specs.Seen.{steps_in}
-use Rattle.gadget_tree.specs.Seen.{variables_of, variable_of}
 use Rattle.gadget_tree.specs.Variables.{names_of, is_among}
 use Rattle.gadget_tree.specs.Made.{count_made, names_made}
 use Rattle.gadget_tree.proofs.LineAnswers.{says-taken, says-unknown, says-many, says-made, length-kinds, operations-kinds, variables-kinds}
@@ -14,14 +12,14 @@ taken names x count n found b e f g = sym (e ∙ ap (λ (k : ℕ). list_any (is_
 
 pub returns-then-is_some_taken-clause-refused : goal.returns-then-is_some_taken-clause-refused
 returns-then-is_some_taken-clause-refused c =
-    let earlier = variables_of c.args.variables in
+    let earlier = c.args.variables in
     let steps = steps_in c.args.bytes.now c.args.steps.now in
     λ other. says-taken c.args.line earlier c.args.name.now steps
     (taken (names_of earlier) c.args.name.now c.count_made-count.result (count_made steps) c.is_some_taken.result true c.is_some_taken.ensures c.if-is_some_taken.true (c.count_made-count.ensures c.args.bytes.now))
 
 pub returns-then-not-are_known-clause-refused : goal.returns-then-not-are_known-clause-refused
 returns-then-not-are_known-clause-refused c =
-    let earlier = variables_of c.args.variables in
+    let earlier = c.args.variables in
     let steps = steps_in c.args.bytes.now c.args.steps.now in
     λ other. says-unknown c.args.line earlier c.args.name.now steps
     (taken (names_of earlier) c.args.name.now c.count_made-count.result (count_made steps) c.is_some_taken.result false c.is_some_taken.ensures c.if-is_some_taken.false (c.count_made-count.ensures c.args.bytes.now))
@@ -29,19 +27,19 @@ returns-then-not-are_known-clause-refused c =
 
 pub returns-then-count-len-clause-refused : goal.returns-then-count-len-clause-refused
 returns-then-count-len-clause-refused c =
-    let earlier = variables_of c.args.variables in
+    let earlier = c.args.variables in
     let steps = steps_in c.args.bytes.now c.args.steps.now in
     λ other. says-many c.args.line earlier c.args.name.now steps
     (taken (names_of earlier) c.args.name.now c.count_made-count.result (count_made steps) c.is_some_taken.result false c.is_some_taken.ensures c.if-is_some_taken.false (c.count_made-count.ensures c.args.bytes.now))
     (sym c.are_known.ensures ∙ c.if-not-are_known.false)
-    (omega (arith, c.count_made-count.ensures c.args.bytes.now, length-map c.args.variables variable_of, c.if-count-len.true, c.len.ensures.len, c.len.ensures.few))
+    (omega (arith, c.count_made-count.ensures c.args.bytes.now, c.if-count-len.true, c.len.ensures.len, c.len.ensures.few))
 
 pub kinds_made-requires-clause-room : goal.kinds_made-requires-clause-room
 kinds_made-requires-clause-room c = omega (arith, c.count_made-count.ensures c.args.bytes.now, c.if-count-len.false, c.len.ensures.len, c.len.ensures.few)
 
 pub with_kinds-requires-clause-fresh : goal.with_kinds-requires-clause-fresh
 with_kinds-requires-clause-fresh c =
-    let names = names_of (variables_of c.args.variables) in
+    let names = names_of c.args.variables in
     let steps = steps_in c.args.bytes.now c.args.steps.now in
     taken names c.args.name.now c.count_made-count.result (length c.deref.result.now) c.is_some_taken.result false c.is_some_taken.ensures c.if-is_some_taken.false
     (c.count_made-count.ensures c.args.bytes.now ∙ sym (length-kinds c.args.variables steps c.deref.result.now c.in_ok-kinds.kinds.items c.requires.tree.0 c.requires.tree.1 c.deref.ensures.value c.in_ok-kinds.ensures))
@@ -58,11 +56,11 @@ with_kinds-requires-clause-operations c =
 
 pub returns-clause-ok : goal.returns-clause-ok
 returns-clause-ok c =
-    let earlier = variables_of c.args.variables in
+    let earlier = c.args.variables in
     let steps = steps_in c.args.bytes.now c.args.steps.now in
-    says-made c.args.line earlier (variables_of c.in_ok-with_kinds.field-0) c.args.name.now steps
+    says-made c.args.line earlier c.in_ok-with_kinds.field-0 c.args.name.now steps
     (taken (names_of earlier) c.args.name.now c.count_made-count.result (count_made steps) c.is_some_taken.result false c.is_some_taken.ensures c.if-is_some_taken.false (c.count_made-count.ensures c.args.bytes.now))
     (sym c.are_known.ensures ∙ c.if-not-are_known.false)
-    (omega (arith, c.count_made-count.ensures c.args.bytes.now, length-map c.args.variables variable_of, c.if-count-len.false, c.len.ensures.len, c.len.ensures.few))
+    (omega (arith, c.count_made-count.ensures c.args.bytes.now, c.if-count-len.false, c.len.ensures.len, c.len.ensures.few))
     (variables-kinds c.args.variables steps c.deref.result.now c.in_ok-kinds.kinds.items c.requires.tree.0 c.requires.tree.1 c.deref.ensures.value c.in_ok-kinds.ensures c.args.line c.args.name.now
-    (variables_of c.in_ok-with_kinds.field-0) c.in_ok-with_kinds.ensures.made)
+    c.in_ok-with_kinds.field-0 c.in_ok-with_kinds.ensures)

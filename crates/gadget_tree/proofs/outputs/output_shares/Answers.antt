@@ -7,7 +7,6 @@ use Rattle.gadget_text.specs.Places.{text_in}
 use Rattle.gadget_headers.specs.Seen.{preamble_in}
 use Rattle.gadget_tree.specs.File.{output_shares_from}
 use Rattle.gadget_tree.specs.Missing.{first_missing}
-use Rattle.gadget_tree.specs.Seen.{variables_of}
 use Rattle.gadget_tree.specs.Variables.{share_names, names_of, place_of}
 use Rattle.gadget_tree.proofs.MissingShares.{missing_in, missing_behind, numbers_behind, missing_said}
 use Rattle.gadget_tree.proofs.outputs.output_shares.Goals as goal
@@ -22,7 +21,7 @@ returns-in_err-push_shares-clause-refused c =
     let bytes = c.args.bytes.now in
     let headers = c.args.headers.now in
     let words = headers.outputs.words.now in
-    let vs = variables_of c.args.variables.now in
+    let vs = c.args.variables.now in
     let first = first_missing vs (output_shares_from headers.shares 0 (map (text_in bytes) words)) in
     rw (p.1, p.2) (λ other. missing_said (preamble_in bytes headers) vs first c.in_err-push_shares.field-0.0
     (missing_in vs bytes words headers.shares c.loop-output.output no_token c.text-stem.result.now c.loop-output-test.true c.text-stem.ensures first c.in_err-push_shares.field-0.0 c.loop-output.invariant.missing
@@ -33,7 +32,7 @@ loop-output-preserved c =
     let bytes = c.args.bytes.now in
     let headers = c.args.headers.now in
     let words = headers.outputs.words.now in
-    let vs = variables_of c.args.variables.now in
+    let vs = c.args.variables.now in
     record {
       numbers = numbers_behind vs bytes words headers.shares c.loop-output.output no_token c.text-stem.result.now c.loop-output-test.true c.text-stem.ensures c.loop-output.numbers.items c.push_shares.new.numbers.items
           (map (place_of (names_of vs)) (share_names headers.shares (map (text_in bytes) words))) c.loop-output.invariant.numbers c.in_ok-push_shares.ensures.numbers;

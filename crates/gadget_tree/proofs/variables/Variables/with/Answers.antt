@@ -1,6 +1,7 @@
 use Rattle.std.proofs.Common.{[], ◌∷◌, ap, ◌∙◌, length, length-append, arith, List}
-use Rattle.gadget_tree.specs.declared.var.Var.{Var}
-use Rattle.gadget_tree.specs.Seen.{variables_of}
+use Rattle.std.proofs.lemmas.List.{length-map}
+use Rattle.gadget_model.specs.Circuit.{Variable}
+use Rattle.gadget_tree.specs.Seen.{variable_of}
 use Rattle.gadget_tree.specs.Variables.{names_of, is_among}
 use Rattle.gadget_tree.proofs.Index.{index-push}
 use Rattle.gadget_tree.proofs.variables.Variables.with.Goals as goal
@@ -11,7 +12,7 @@ invariant_of-result c =
     let longer = ap length c.in_ok-push.ensures.items ∙ length-append vars.items (c.args.var ∷ []) in
     let same = ap length c.self.view_is in (
       index-push c.self.inside.numbers.entries c.insert.new.self.entries vars.items c.push.new.self.items c.args.var c.in_ok-name.name c.len.result c.self.invariant.0
-          (ap (λ (vs : List Var). is_among (names_of (variables_of vs)) c.args.var.name) c.self.view_is ∙ c.requires.fresh) (c.in_ok-name.ensures.items ∙ c.bytes.ensures) c.in_ok-insert.ensures.entries
+          (ap (λ (vs : List Variable). is_among (names_of vs) c.args.var.name) c.self.view_is ∙ c.requires.fresh) (c.in_ok-name.ensures.items ∙ c.bytes.ensures) c.in_ok-insert.ensures.entries
           (omega (arith, vars.ok.0, c.len.ensures)) c.in_ok-push.ensures.items,
-      omega (arith, longer, same, c.requires.room),
+      omega (arith, longer, same, length-map vars.items variable_of, c.requires.room),
     )
