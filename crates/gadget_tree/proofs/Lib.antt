@@ -1,3 +1,4 @@
+pub mod NameOrder
 pub mod Index
 pub mod TakenNames
 pub mod Numerals

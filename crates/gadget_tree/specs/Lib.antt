@@ -1,5 +1,6 @@
 pub mod Seen
 pub mod Variables
+pub mod NameOrder
 pub mod Operations
 pub mod Made
 pub mod Numerals

@@ -1,13 +1,5 @@
 -- The code's variables and lines as the model's.
-use Rattle.std.specs.Prelude.{◌≡◌, ℕ, ◌+◌, ◌*◌, List, map}
-use Rattle.std.specs.declared.vec.Vec.{Vec}
-use Rattle.std.specs.declared.alloc.Global.{Global}
-use Rattle.std.specs.List.{position}
-use Rattle.std.specs.Str.{bytes_eq}
-use Rattle.std.specs.Ordering.{nat_cmp}
-use Rattle.std.specs.Cmp.Lexicographic.{slice_cmp}
-use Rattle.std.specs.BTreeMap.{is_at}
-use Rattle.std.specs.Map.{lookup}
+use Rattle.std.specs.Prelude.{ℕ, ◌+◌, ◌*◌, List, map}
 use Rattle.gadget_text.specs.declared.line_tokens.LineTokens.{LineTokens}
 use Rattle.gadget_text.specs.Tokens.{TokenLine}
 use Rattle.gadget_text.specs.Places.{lexemes_in}
@@ -33,7 +25,3 @@ variables_of vars = map variable_of vars
 -- a line of tokens without their places
 abbrev pub line_of : List ℕ → LineTokens → TokenLine
 line_of bytes line = record { number = line.line; lexemes = lexemes_in bytes line.tokens.now }
-
--- the map finds each name at its first place among these
-abbrev pub FindsNames : List (Vec ℕ Global × ℕ) → List (List ℕ) → Type 0
-FindsNames entries names = (name : List ℕ) → lookup (is_at (λ key. slice_cmp nat_cmp name key.items)) entries ≡ position (bytes_eq name) names

@@ -70,9 +70,7 @@ fn inner_name(alloc: Global, name: &[u8], k: usize) -> Result<Name, AllocError>
     ensures { IfOk result (λ n. n ≡ inner_name name.now k) }
 {
     let number = format!(in alloc; ".{k}")?;
-    let mut bytes = Vec::from_slice(alloc, name)?;
-    bytes.extend_from_slice(number.as_bytes())?;
-    Name::new(alloc, &bytes)
+    Name::joined(alloc, name, number.as_bytes())
 }
 
 /// The name of the k-th variable, counted from 1, that a line makes which makes so many.

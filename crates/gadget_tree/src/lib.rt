@@ -10,6 +10,7 @@ mod line;
 mod making;
 mod name;
 mod name_list;
+mod name_order;
 mod operations;
 mod outputs;
 mod print;

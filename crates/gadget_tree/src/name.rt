@@ -1,6 +1,6 @@
 //! Names.
 
-ghost use Rattle.std.specs.Prelude.{◌≡◌, ◌↔◌, IfOk, IsTrue};
+ghost use Rattle.std.specs.Prelude.{◌≡◌, ◌↔◌, ◌++◌, IfOk, IsTrue};
 
 use std::alloc::{AllocError, Global};
 use std::marker::Model;
@@ -25,6 +25,16 @@ impl Name {
         ensures { IfOk result (λ name. name ≡ word.now) }
     {
         let bytes = Vec::from_slice(alloc, word)?;
+        Ok(Name { bytes })
+    }
+
+    /// The name that is two words, one right after the other. Each is copied once.
+    pub(crate) fn joined(alloc: Global, first: &[u8], second: &[u8]) -> Result<Name, AllocError>
+        ensures { IfOk result (λ name. name ≡ first.now ++ second.now) }
+    {
+        let mut bytes = Vec::with_capacity(alloc, first.len() + second.len())?;
+        bytes.extend_from_slice(first)?;
+        bytes.extend_from_slice(second)?;
         Ok(Name { bytes })
     }
 

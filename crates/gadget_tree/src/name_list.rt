@@ -14,9 +14,7 @@ pub(crate) fn share_name(alloc: Global, stem: &[u8], index: u8) -> Result<Name, 
     ensures { IfOk result (λ name. name ≡ share_name stem.now index) }
 {
     let number = format!(in alloc; "{index}")?;
-    let mut bytes = Vec::from_slice(alloc, stem)?;
-    bytes.extend_from_slice(number.as_bytes())?;
-    Name::new(alloc, &bytes)
+    Name::joined(alloc, stem, number.as_bytes())
 }
 
 // Adds the names of the shares of one stem.

@@ -3,13 +3,13 @@
 ghost use Rattle.std.specs.Prelude.{◌≡◌, ◌<◌, ◌++◌, ◌∷◌, [], ℕ, length, codes, decimal, Ok, IfOk, OnOk};
 ghost use Rattle.gadget_model.specs.Circuit.{Circuit, NamesEarlier};
 ghost use Rattle.gadget_tree.specs.Seen.{node_of, variables_of};
-ghost use Rattle.gadget_tree.specs.Variables.{name_at};
 ghost use Rattle.gadget_tree.specs.File.{FileSays};
 ghost use Rattle.gadget_tree.specs.Canonical.{random_name, randoms_line, operation_line, canonical_text, AreEqualButForLines};
 ghost use Rattle.gadget_tree.specs.Printed.{printed_line, printed_lines, printed_words, randoms_among, operations_among};
 
 use crate::gadget::Gadget;
 use crate::name::Name;
+use crate::name_order::name_of;
 use crate::var::{Var, VarKind};
 use mask_bytes::OutOfMemory;
 use std::alloc::Global;
@@ -153,12 +153,4 @@ fn add_binary(
     add_word(text, &[sign])?;
     add_word(text, b)?;
     Ok(text.push(b'\n')?)
-}
-
-// The name of the variable with a number.
-fn name_of(vars: &[Var], number: u16) -> &[u8]
-    requires { number < length vars.now }
-    ensures { result.now ≡ name_at (variables_of vars.now) number }
-{
-    vars[usize::from(number)].name.bytes()
 }

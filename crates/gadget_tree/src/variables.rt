@@ -4,16 +4,17 @@ ghost use Rattle.std.specs.Prelude.{◌≡◌, ◌≤◌, ◌<◌, ◌++◌, ◌
 ghost use Rattle.gadget_tree.specs.Seen.{variable_of, variables_of};
 ghost use Rattle.gadget_tree.specs.Variables.{names_of, is_among, place_of};
 
+use crate::name_order::{number_of, rank};
 use crate::var::Var;
 use std::alloc::{AllocError, Global};
-use std::collections::BTreeMap;
 use std::marker::Model;
 
 /// The variables so far, at most 511. Contracts see the model's list of them.
 #[derive(Drop)]
 pub(crate) struct Variables {
     vars: Vec<Var>,
-    numbers: BTreeMap<Vec<u8>, u16>,
+    // Their numbers, in the order of their names.
+    numbers: Vec<u16>,
 }
 
 impl Model for Variables {
@@ -22,12 +23,12 @@ impl Model for Variables {
 
     ghost Value = { List Variable };
 
-    ghost use Rattle.gadget_tree.specs.Seen.{variables_of, FindsNames};
-    ghost use Rattle.gadget_tree.specs.Variables.{names_of};
+    ghost use Rattle.gadget_tree.specs.Seen.{variables_of};
+    ghost use Rattle.gadget_tree.specs.NameOrder.{AreAllInOrder};
 
     ghost view = { λ s. variables_of s.vars.items };
 
-    ghost invariant = { λ s. FindsNames s.numbers.entries (names_of (variables_of s.vars.items)) × (length s.vars.items ≤ 511) };
+    ghost invariant = { λ s. AreAllInOrder (variables_of s.vars.items) s.numbers.items × (length s.vars.items ≤ 511) };
 }
 
 impl Variables {
@@ -37,7 +38,7 @@ impl Variables {
     {
         Variables {
             vars: Vec::new(alloc),
-            numbers: BTreeMap::new(alloc),
+            numbers: Vec::new(alloc),
         }
     }
 
@@ -49,13 +50,13 @@ impl Variables {
         self.vars.len()
     }
 
-    /// The number of the variable with a name. Time is logarithmic in how many there are.
+    /// The number of the variable with a name. Time is logarithmic in how many there are, times the bytes at which names end alike.
     pub(crate) fn number(&self, name: &[u8]) -> Option<u16>
         ensures among { is_some result ≡ is_among (names_of self.now) name.now }
         ensures place { IfSome result (λ k. k ≡ place_of (names_of self.now) name.now) }
         ensures below { IfSome result (λ k. k < length self.now) }
     {
-        self.numbers.get(name).copied()
+        number_of(&self.vars, &self.numbers, name)
     }
 
     /// Whether a name stands for something already.
@@ -82,9 +83,8 @@ impl Variables {
             mut vars,
             mut numbers,
         } = self;
-        let alloc = *vars.allocator();
-        let name = Vec::from_slice(alloc, var.name.bytes())?;
-        numbers.insert(name, vars.len() as u16)?;
+        let place = rank(&vars, &numbers, var.name.bytes());
+        numbers.insert(place, vars.len() as u16)?;
         vars.push(var)?;
         Ok(Variables { vars, numbers })
     }
@@ -96,7 +96,7 @@ impl Variables {
         &self.vars
     }
 
-    /// The variables, in order, without their index.
+    /// The variables, in order.
     pub(crate) fn into_vars(self) -> Vec<Var>
         ensures { variables_of result.items ≡ self }
     {

@@ -1,3 +1,4 @@
 pub mod Members
 pub mod Counts
 pub mod Once
+pub mod Inserted

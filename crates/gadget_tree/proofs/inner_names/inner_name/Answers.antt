@@ -6,7 +6,6 @@ use Rattle.gadget_tree.proofs.inner_names.inner_name.Goals as goal
 
 pub returns : goal.returns
 returns c =
-    let front = ap (λ (xs : List ℕ). xs ++ c.as_bytes.result.now) c.in_ok-bytes.ensures.items in
-    let back = ap (λ (xs : List ℕ). c.args.name.now ++ xs) (c.as_bytes.ensures.value ∙ c.in_ok-number.ensures.ok) in
-    let made = c.deref.ensures.value ∙ c.in_ok-extend_from_slice.ensures.items ∙ front ∙ back ∙ sym (inner_is c.args.name.now c.args.k) in
-    IfOk-weaker c.new.result (λ n. n ≡ c.deref.result.now) (λ n. n ≡ inner_name c.args.name.now c.args.k) (λ n e. e ∙ made) c.new.ensures
+    let name = c.args.name.now in
+    let number = ap (λ (xs : List ℕ). name ++ xs) (c.as_bytes.ensures.value ∙ c.in_ok-number.ensures.ok) in
+    IfOk-weaker c.joined.result (λ n. n ≡ name ++ c.as_bytes.result.now) (λ n. n ≡ inner_name name c.args.k) (λ n e. e ∙ number ∙ sym (inner_is name c.args.k)) c.joined.ensures
