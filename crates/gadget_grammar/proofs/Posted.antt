@@ -132,5 +132,5 @@ from_posted (x ∷ xs) s =
     ap (option_and_then (λ n. machine.steps_from n xs)) (next_posted s.outer s.here s.unit x) ∙ then_posted xs (next_state s x) (from_posted xs)
 
 -- the machine gives the steps of the tree that is read
-pub steps_read : (xs : List Symbol) → machine.steps_from machine.start xs ≡ option_map postfix (tree_from start xs)
+pub steps_read : (xs : List Symbol) → machine.steps_from machine.initial_state xs ≡ option_map postfix (tree_from start xs)
 steps_read xs = from_posted xs start

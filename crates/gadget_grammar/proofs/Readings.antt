@@ -17,11 +17,11 @@ pub one_tree : (s t : Tree) → Derives expr s → Derives expr t → spelled s 
 one_tree s t g h e = same_Some s t (sym (tree_read s g) ∙ ap (tree_from start) e ∙ tree_read t h)
 
 -- the symbols of a tree are read as its steps
-pub run_spelled : (xs : List Symbol) (t : Tree) → AreExpression xs t → machine.steps_from machine.start xs ≡ Some (postfix t)
-run_spelled xs t h = ap (machine.steps_from machine.start) h.spells ∙ steps_read (spelled t) ∙ ap (option_map postfix) (tree_read t h.derives)
+pub run_spelled : (xs : List Symbol) (t : Tree) → AreExpression xs t → machine.steps_from machine.initial_state xs ≡ Some (postfix t)
+run_spelled xs t h = ap (machine.steps_from machine.initial_state) h.spells ∙ steps_read (spelled t) ∙ ap (option_map postfix) (tree_read t h.derives)
 
 -- steps that are read are those of a tree of the symbols
-pub run_has_tree : (xs : List Symbol) (steps : List NamedStep) → machine.steps_from machine.start xs ≡ Some steps → (t : Tree) × AreExpression xs t × (steps ≡ postfix t)
+pub run_has_tree : (xs : List Symbol) (steps : List NamedStep) → machine.steps_from machine.initial_state xs ≡ Some steps → (t : Tree) × AreExpression xs t × (steps ≡ postfix t)
 run_has_tree xs steps e = of_read (tree_from start xs) (read_sound xs) (sym (steps_read xs) ∙ e) where
   of_read : (o : Option Tree) → IfSome o (λ t. Derives expr t × (xs ≡ spelled t)) → option_map postfix o ≡ Some steps → (t : Tree) × AreExpression xs t × (steps ≡ postfix t)
   of_read None h f = absurd cc

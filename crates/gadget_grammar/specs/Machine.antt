@@ -33,20 +33,28 @@ after_closing steps (level ∷ outer) = Some (record { steps = steps; outer = ou
 
 -- where a unit is wanted, only a name and an opening parenthesis are right
 abbrev pub next_before_unit : List NamedStep → List Level → Level → Symbol → Option State
-next_before_unit steps outer here (word w) = if is_name w then Some (record { steps = steps ++ name w ∷ []; outer = outer; here = here; has_unit = true }) else None
-next_before_unit steps outer here opening = Some (record { steps = steps; outer = here ∷ outer; here = empty; has_unit = false })
+next_before_unit steps outer here (word w) =
+    if is_name w then Some (record { steps = steps ++ name w ∷ []; outer = outer; here = here; has_unit = true }) else None
+next_before_unit steps outer here opening =
+    Some (record { steps = steps; outer = here ∷ outer; here = empty; has_unit = false })
 next_before_unit steps outer here symbol = None
 
 -- behind a unit, only `+`, `*` and a closing parenthesis are right
 abbrev pub next_behind_unit : List NamedStep → List Level → Level → Symbol → Option State
-next_behind_unit steps outer here plus = Some (record { steps = with_level here steps; outer = outer; here = record { sum = true; product = false }; has_unit = false })
-next_behind_unit steps outer here times = Some (record { steps = with_waiting here.product product steps; outer = outer; here = record { sum = here.sum; product = true }; has_unit = false })
+next_behind_unit steps outer here plus =
+    let waits : Level = record { sum = true; product = false } in
+    Some (record { steps = with_level here steps; outer = outer; here = waits; has_unit = false })
+next_behind_unit steps outer here times =
+    let waits : Level = record { sum = here.sum; product = true } in
+    Some (record { steps = with_waiting here.product product steps; outer = outer; here = waits; has_unit = false })
 next_behind_unit steps outer here closing = after_closing (with_level here steps) outer
 next_behind_unit steps outer here symbol = None
 
 -- the state after one more symbol, where that is right here
 abbrev pub next_state : State → Symbol → Option State
-next_state s symbol = if s.has_unit then next_behind_unit s.steps s.outer s.here symbol else next_before_unit s.steps s.outer s.here symbol
+next_state s symbol =
+    if s.has_unit then next_behind_unit s.steps s.outer s.here symbol
+    else next_before_unit s.steps s.outer s.here symbol
 
 -- the steps, where the expression may end
 abbrev pub final_steps_at : List NamedStep → List Level → Level → Bool → Option (List NamedStep)
@@ -63,8 +71,8 @@ steps_from s [] = final_steps s
 steps_from s (symbol ∷ symbols) = option_and_then (λ next. steps_from next symbols) (next_state s symbol)
 
 -- nothing is read
-abbrev pub start : State
-start = record { steps = []; outer = []; here = empty; has_unit = false }
+abbrev pub initial_state : State
+initial_state = record { steps = []; outer = []; here = empty; has_unit = false }
 
 -- the name on the left side, where a line begins with a name and `=`
 abbrev pub left_name : List Symbol → Option (List ℕ)

@@ -1,23 +1,22 @@
 -- The code's values without their places.
-use Rattle.std.specs.Prelude.{◌≡◌, ℕ, List, [], ◌∷◌, map, flat_map, reverse, Option, Some, None, Result, Ok, Err}
+use Rattle.std.specs.Prelude.{◌≡◌, ℕ, List, [], ◌∷◌, ◌++◌, map, flat_map, reverse, Option, ok_or, Result}
 use Rattle.std.specs.declared.vec.Vec.{Vec}
 use Rattle.std.specs.declared.alloc.Global.{Global}
+use Rattle.gadget_text.specs.declared.file_error.FileError.{FileError}
+use Rattle.gadget_text.specs.declared.file_error.FileError.TheVariants.{Syntax}
 use Rattle.gadget_text.specs.declared.token.Token.{Token}
 use Rattle.gadget_text.specs.declared.token.TokenKind.{TokenKind}
 use Rattle.gadget_text.specs.declared.token.TokenKind.TheVariants.{Word}
-use Rattle.gadget_text.specs.Tokens.{Lexeme}
-use Rattle.gadget_text.specs.Places.{IsWithin, text_in, lexemes_in}
+use Rattle.gadget_text.specs.Errors.{Gives, Is, MemoryAside}
+use Rattle.gadget_text.specs.Places.{IsWithin, text_in, lexeme_in, lexemes_in}
 use Rattle.gadget_grammar.specs.declared.step.Step.{Step}
 use Rattle.gadget_grammar.specs.declared.step.Step.TheVariants as code
 use Rattle.gadget_grammar.specs.declared.step.Assignment.{Assignment}
-use Rattle.gadget_grammar.specs.declared.grammar_error.GrammarError.{GrammarError}
-use Rattle.gadget_grammar.specs.declared.grammar_error.GrammarError.TheVariants.{Nesting, Syntax, OutOfMemory}
 use Rattle.gadget_grammar.specs.declared.reader.Reader.{Reader}
-use Rattle.gadget_grammar.specs.Symbols.{Symbol, symbols_of}
-use Rattle.gadget_grammar.specs.Grammar.{Tree, IsAssignment}
-use Rattle.gadget_grammar.specs.Steps.{NamedStep, name, sum, product, postfix}
-use Rattle.gadget_grammar.specs.Nesting.{IsTooDeep}
-use Rattle.gadget_grammar.specs.Machine.{State}
+use Rattle.gadget_grammar.specs.Symbols.{Symbol, symbol_of, symbols_of}
+use Rattle.gadget_grammar.specs.Steps.{NamedStep, name, sum, product}
+use Rattle.gadget_grammar.specs.Machine.{State, next_state}
+use Rattle.gadget_grammar.specs.Assignments.{AssignedSteps}
 
 -- the symbols of tokens of these bytes
 abbrev pub symbols_in : List ℕ → List Token → List Symbol
@@ -59,27 +58,30 @@ IsStepWithin len code.Product = Unit {0}
 
 -- a reader as the machine's state
 abbrev pub state_in : List ℕ → Reader → State
-state_in bytes reader = record { steps = steps_in bytes reader.steps.items; outer = reverse reader.outer.items; here = reader.here; has_unit = reader.has_unit }
+state_in bytes reader = record {
+  steps = steps_in bytes reader.steps.items;
+  outer = reverse reader.outer.items;
+  here = reader.here;
+  has_unit = reader.has_unit;
+}
 
--- what one more token answered: the machine's next state is that of the reader now, or there is none
-abbrev pub Advances : Result (Unit {0}) GrammarError → State → Option State → Type 0
-Advances (Ok u) now next = next ≡ Some now
-Advances (Err Syntax) now next = next ≡ None
-Advances (Err Nesting) now next = ⊥
-Advances (Err OutOfMemory) now next = Unit {0}
+-- the machine's state after one more token, where that is right here
+abbrev pub state_after : List ℕ → Reader → Token → Option State
+state_after bytes reader token = next_state (state_in bytes reader) (symbol_of (lexeme_in bytes token))
 
--- what reading an expression answered: the machine's steps, or it has none
-abbrev pub Gives : List ℕ → Result (Vec Step Global) GrammarError → Option (List NamedStep) → Type 0
-Gives bytes (Ok steps) read = read ≡ Some (steps_in bytes steps.items)
-Gives bytes (Err Syntax) read = read ≡ None
-Gives bytes (Err Nesting) read = ⊥
-Gives bytes (Err OutOfMemory) read = Unit {0}
+-- the names among the steps stay, and a token that is a word is added to them
+abbrev pub AddsName : Token → List Step → List Step → Type 0
+AddsName token old new = name_tokens new ≡ name_tokens old ++ where_word token.kind token
 
--- What the tokens of a line say. They assign the expression that the steps give to the name; or too many parentheses are open
--- at some place; or neither, and they are no assignment. That memory ran out may be said of any line.
-abbrev pub LineSays : List ℕ → List Lexeme → Result Assignment GrammarError → Type 0
-LineSays bytes lexemes (Ok a) =
-    (IsTooDeep lexemes → ⊥) × (tree : Tree) × IsAssignment lexemes (text_in bytes a.name) tree × (steps_in bytes a.steps.items ≡ postfix tree)
-LineSays bytes lexemes (Err Nesting) = IsTooDeep lexemes
-LineSays bytes lexemes (Err Syntax) = (IsTooDeep lexemes → ⊥) × ((name : List ℕ) (tree : Tree) → IsAssignment lexemes name tree → ⊥)
-LineSays bytes lexemes (Err OutOfMemory) = Unit {0}
+-- what one more token answered: the machine's next state is that of the reader now, or the line is no assignment
+abbrev pub Advances : ℕ → Result (Unit {0}) FileError → State → Option State → Type 0
+Advances line answer now next = Gives (λ _. now) answer (MemoryAside (Is (ok_or next (Syntax line))))
+
+-- what reading an expression answered: the machine's steps, or the line is no assignment
+abbrev pub GivesSteps : ℕ → List ℕ → Result (Vec Step Global) FileError → Option (List NamedStep) → Type 0
+GivesSteps line bytes answer read =
+    Gives (λ v. steps_in bytes v.items) answer (MemoryAside (Is (ok_or read (Syntax line))))
+
+-- an assignment with the texts of its names
+abbrev pub assignment_in : List ℕ → Assignment → AssignedSteps
+assignment_in bytes a = record { name = text_in bytes a.name; steps = steps_in bytes a.steps.items }

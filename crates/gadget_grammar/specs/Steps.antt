@@ -22,21 +22,21 @@ pub record Meaning (V : Type 0) : Type 0 where
   pub of_product : V → V → V
 
 -- the value of a tree
-abbrev pub value : {V : Type 0} → Meaning V → Tree → V
-value m (named word) = m.of_name word
-value m (parens t) = value m t
-value m (sum_of a b) = m.of_sum (value m a) (value m b)
-value m (product_of a b) = m.of_product (value m a) (value m b)
+abbrev pub tree_value : {V : Type 0} → Meaning V → Tree → V
+tree_value m (named word) = m.of_name word
+tree_value m (parens t) = tree_value m t
+tree_value m (sum_of a b) = m.of_sum (tree_value m a) (tree_value m b)
+tree_value m (product_of a b) = m.of_product (tree_value m a) (tree_value m b)
 
 -- what a step makes of a stack of values; a sum or a product leaves a stack of less than two as it is
-abbrev pub after_step : {V : Type 0} → Meaning V → NamedStep → List V → List V
-after_step m (name word) stack = m.of_name word ∷ stack
-after_step m sum (b ∷ a ∷ stack) = m.of_sum a b ∷ stack
-after_step m sum stack = stack
-after_step m product (b ∷ a ∷ stack) = m.of_product a b ∷ stack
-after_step m product stack = stack
+abbrev pub stack_after : {V : Type 0} → Meaning V → NamedStep → List V → List V
+stack_after m (name word) stack = m.of_name word ∷ stack
+stack_after m sum (b ∷ a ∷ stack) = m.of_sum a b ∷ stack
+stack_after m sum stack = stack
+stack_after m product (b ∷ a ∷ stack) = m.of_product a b ∷ stack
+stack_after m product stack = stack
 
 -- the values that steps leave on a stack
-abbrev pub after_steps : {V : Type 0} → Meaning V → List NamedStep → List V → List V
-after_steps m [] stack = stack
-after_steps m (step ∷ steps) stack = after_steps m steps (after_step m step stack)
+abbrev pub stack_after_steps : {V : Type 0} → Meaning V → List NamedStep → List V → List V
+stack_after_steps m [] stack = stack
+stack_after_steps m (step ∷ steps) stack = stack_after_steps m steps (stack_after m step stack)

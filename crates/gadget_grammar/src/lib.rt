@@ -1,7 +1,6 @@
-//! The assignment lines of a gadget file: expressions in post-order, and why a line is refused.
+//! The assignment lines of a gadget file: their expressions in post-order.
 #![tactic(auto)]
 
-mod grammar_error;
 mod laws;
 mod level;
 mod line;
@@ -9,9 +8,9 @@ mod nesting;
 mod reader;
 mod step;
 
-pub use grammar_error::GrammarError;
 pub use laws::{one_tree_law, value_law};
 pub use line::assignment;
+pub use nesting::MOST_OPEN_PARENTHESES;
 pub use step::{Assignment, Step};
 
 #[cfg(test)]

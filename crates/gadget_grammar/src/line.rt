@@ -1,15 +1,16 @@
 //! An assignment line.
 
 ghost use Rattle.std.specs.Prelude.{◌≡◌, ◌≤◌, ◌∷◌, All, IfOk, IfSome, length, drop, option_map};
-ghost use Rattle.gadget_text.specs.Places.{IsWithin, lexemes_in, text_in};
-ghost use Rattle.gadget_grammar.specs.Machine.{left_name, steps_from, start};
-ghost use Rattle.gadget_grammar.specs.Seen.{IsStepWithin, symbols_in, name_tokens, word_tokens, Gives, LineSays};
+ghost use Rattle.gadget_text.specs.Errors.{Gives, MemoryAside};
+ghost use Rattle.gadget_text.specs.Places.{IsWithin, line_of, text_in};
+ghost use Rattle.gadget_grammar.specs.Assignments.{StepsSaid};
+ghost use Rattle.gadget_grammar.specs.Machine.{left_name, steps_from, initial_state};
+ghost use Rattle.gadget_grammar.specs.Seen.{IsStepWithin, symbols_in, name_tokens, word_tokens, assignment_in, GivesSteps};
 
-use crate::grammar_error::GrammarError;
 use crate::nesting::is_too_deep;
 use crate::reader::expression;
 use crate::step::{Assignment, Step};
-use gadget_text::{Token, TokenKind, is_name, text};
+use gadget_text::{FileError, LineTokens, Token, TokenKind, What, is_name, text};
 use std::alloc::Global;
 
 // The name on the left side, where a line begins with a name and `=`.
@@ -33,33 +34,42 @@ fn left_side(bytes: &[u8], tokens: &[Token]) -> Option<Token>
     Some(left)
 }
 
-// The steps of what stands behind the first two tokens.
-fn right_side(alloc: Global, bytes: &[u8], tokens: &[Token]) -> Result<Vec<Step>, GrammarError>
+// The steps of what stands after the first two tokens of a line.
+fn right_side(
+    alloc: Global,
+    line: u32,
+    bytes: &[u8],
+    tokens: &[Token],
+) -> Result<Vec<Step>, FileError>
     requires two { 2 ≤ length tokens.now }
     requires spans { All (IsWithin (length bytes.now)) tokens.now }
-    ensures steps { Gives bytes.now result (steps_from start (symbols_in bytes.now (drop 2 tokens.now))) }
+    ensures steps { GivesSteps line bytes.now result (steps_from initial_state (symbols_in bytes.now (drop 2 tokens.now))) }
     ensures names { IfOk result (λ v. name_tokens v.items ≡ word_tokens (drop 2 tokens.now)) }
 {
-    expression(alloc, bytes, &tokens[2..])
+    expression(alloc, line, bytes, &tokens[2..])
 }
 
-/// The name that an assignment line assigns to, and its expression in post-order. The tokens are those of one line, as
-/// `gadget_text::tokens` gives them; a word that is no name stands in no assignment. That parentheses are nested too deep
-/// is found first, wherever else the line is wrong. Time is linear in the length of the line.
-pub fn assignment(alloc: Global, bytes: &[u8], tokens: &[Token]) -> Result<Assignment, GrammarError>
-    requires { All (IsWithin (length bytes.now)) tokens.now }
-    ensures says { LineSays bytes.now (lexemes_in bytes.now tokens.now) result }
-    ensures words { IfOk result (λ a. word_tokens tokens.now ≡ a.name ∷ name_tokens a.steps.items) }
+/// The name that an assignment line assigns to, and its expression in post-order. The tokens are as `gadget_text::tokens`
+/// gives them; a word that is no name stands in no assignment. That parentheses are nested too deep is found first,
+/// wherever else the line is wrong. Time is linear in the length of the line.
+pub fn assignment(
+    alloc: Global,
+    bytes: &[u8],
+    line: &LineTokens<'_>,
+) -> Result<Assignment, FileError>
+    requires { All (IsWithin (length bytes.now)) line.now.tokens.now }
+    ensures says { Gives (assignment_in bytes.now) result (MemoryAside (StepsSaid (line_of bytes.now line.now))) }
+    ensures words { IfOk result (λ a. word_tokens line.now.tokens.now ≡ a.name ∷ name_tokens a.steps.items) }
     ensures name_within { IfOk result (λ a. IsWithin (length bytes.now) a.name) }
     ensures steps_within { IfOk result (λ a. All (IsStepWithin (length bytes.now)) a.steps.items) }
-    ensures few_steps { IfOk result (λ a. length a.steps.items ≤ length tokens.now) }
+    ensures few_steps { IfOk result (λ a. length a.steps.items ≤ length line.now.tokens.now) }
 {
-    if is_too_deep(tokens) {
-        return Err(GrammarError::Nesting);
+    if is_too_deep(line.tokens) {
+        return Err(FileError::TooMany(What::Nesting));
     }
-    let Some(name) = left_side(bytes, tokens) else {
-        return Err(GrammarError::Syntax);
+    let Some(name) = left_side(bytes, line.tokens) else {
+        return Err(FileError::Syntax(line.line));
     };
-    let steps = right_side(alloc, bytes, tokens)?;
+    let steps = right_side(alloc, line.line, bytes, line.tokens)?;
     Ok(Assignment { name, steps })
 }

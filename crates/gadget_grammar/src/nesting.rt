@@ -6,7 +6,10 @@ ghost use Rattle.gadget_grammar.specs.Seen.{symbols_in};
 
 use gadget_text::{Token, TokenKind};
 
-/// Whether in some prefix over 64 more parentheses are opened than closed.
+/// In each prefix of a line at most this many more parentheses are opened than closed.
+pub const MOST_OPEN_PARENTHESES: u64 = 64;
+
+/// Whether in some prefix more parentheses are open than may be.
 pub(crate) fn is_too_deep(tokens: &[Token]) -> bool
     ensures { (bytes : List ℕ) → result ≡ is_too_deep 0 0 (symbols_in bytes tokens.now) }
 {
@@ -16,7 +19,7 @@ pub(crate) fn is_too_deep(tokens: &[Token]) -> bool
         match token.kind {
             TokenKind::Open => {
                 opened += 1;
-                if 64 + closed < opened {
+                if MOST_OPEN_PARENTHESES + closed < opened {
                     return true;
                 }
             }

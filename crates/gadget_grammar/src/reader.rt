@@ -1,16 +1,14 @@
 //! A reader of expressions that goes once through the tokens, with a stack of its own.
 
-ghost use Rattle.std.specs.Prelude.{◌≡◌, ℕ, List, [], ◌++◌, All, length, IfOk, OnOk, true, false};
-ghost use Rattle.gadget_text.specs.Places.{lexeme_in, IsWithin};
-ghost use Rattle.gadget_grammar.specs.Symbols.{symbol_of};
+ghost use Rattle.std.specs.Prelude.{◌≡◌, ℕ, List, [], All, length, IfOk, OnOk, true, false};
+ghost use Rattle.gadget_text.specs.Places.{IsWithin};
 ghost use Rattle.gadget_grammar.specs.Steps.{sum, product};
-ghost use Rattle.gadget_grammar.specs.Machine.{with_waiting, with_level, next_before_unit, next_behind_unit, next_state, final_steps, steps_from, start};
-ghost use Rattle.gadget_grammar.specs.Seen.{symbols_in, steps_in, name_tokens, where_word, word_tokens, state_in, Advances, Gives};
+ghost use Rattle.gadget_grammar.specs.Machine.{with_waiting, with_level, final_steps, steps_from, initial_state};
+ghost use Rattle.gadget_grammar.specs.Seen.{symbols_in, steps_in, name_tokens, word_tokens, state_in, state_after, AddsName, Advances, GivesSteps};
 
-use crate::grammar_error::GrammarError;
 use crate::level::Level;
 use crate::step::Step;
-use gadget_text::{Token, TokenKind, is_name, text};
+use gadget_text::{FileError, Token, TokenKind, is_name, text};
 use std::alloc::{AllocError, Global};
 
 /// How far an expression is read.
@@ -31,7 +29,8 @@ const EMPTY: Level = Level {
 
 // Puts out a product that waits.
 fn end_product(steps: &mut Vec<Step>, level: Level) -> Result<(), AllocError>
-    ensures steps { OnOk result ((bytes : List ℕ) → steps_in bytes steps.new.items ≡ with_waiting level.product product (steps_in bytes steps.old.items)) }
+    ensures steps { OnOk result ((bytes : List ℕ) →
+        steps_in bytes steps.new.items ≡ with_waiting level.product product (steps_in bytes steps.old.items)) }
     ensures names { OnOk result (name_tokens steps.new.items ≡ name_tokens steps.old.items) }
 {
     if level.product {
@@ -42,7 +41,8 @@ fn end_product(steps: &mut Vec<Step>, level: Level) -> Result<(), AllocError>
 
 // Puts out a sum that waits.
 fn end_sum(steps: &mut Vec<Step>, level: Level) -> Result<(), AllocError>
-    ensures steps { OnOk result ((bytes : List ℕ) → steps_in bytes steps.new.items ≡ with_waiting level.sum sum (steps_in bytes steps.old.items)) }
+    ensures steps { OnOk result ((bytes : List ℕ) →
+        steps_in bytes steps.new.items ≡ with_waiting level.sum sum (steps_in bytes steps.old.items)) }
     ensures names { OnOk result (name_tokens steps.new.items ≡ name_tokens steps.old.items) }
 {
     if level.sum {
@@ -53,7 +53,8 @@ fn end_sum(steps: &mut Vec<Step>, level: Level) -> Result<(), AllocError>
 
 // Puts out all that waits at a level: a product before a sum, whose right side it is.
 fn end_level(steps: &mut Vec<Step>, level: Level) -> Result<(), AllocError>
-    ensures steps { OnOk result ((bytes : List ℕ) → steps_in bytes steps.new.items ≡ with_level level (steps_in bytes steps.old.items)) }
+    ensures steps { OnOk result ((bytes : List ℕ) →
+        steps_in bytes steps.new.items ≡ with_level level (steps_in bytes steps.old.items)) }
     ensures names { OnOk result (name_tokens steps.new.items ≡ name_tokens steps.old.items) }
 {
     end_product(steps, level)?;
@@ -63,7 +64,7 @@ fn end_level(steps: &mut Vec<Step>, level: Level) -> Result<(), AllocError>
 impl Reader {
     // Nothing is read.
     fn new(alloc: Global) -> Reader
-        ensures state { (bytes : List ℕ) → state_in bytes result ≡ start }
+        ensures state { (bytes : List ℕ) → state_in bytes result ≡ initial_state }
         ensures empty { result.steps.items ≡ [] }
     {
         Reader {
@@ -75,16 +76,16 @@ impl Reader {
     }
 
     // Where a unit is wanted, only a name and an opening parenthesis are right.
-    fn begin(&mut self, bytes: &[u8], token: Token) -> Result<(), GrammarError>
+    fn begin(&mut self, line: u32, bytes: &[u8], token: Token) -> Result<(), FileError>
         requires span { IsWithin (length bytes.now) token }
         requires unit { self.old.has_unit ≡ false }
-        ensures state { Advances result (state_in bytes.now self.new) (next_state (state_in bytes.now self.old) (symbol_of (lexeme_in bytes.now token))) }
-        ensures names { OnOk result (name_tokens self.new.steps.items ≡ name_tokens self.old.steps.items ++ where_word token.kind token) }
+        ensures state { Advances line result (state_in bytes.now self.new) (state_after bytes.now self.old token) }
+        ensures names { OnOk result (AddsName token self.old.steps.items self.new.steps.items) }
     {
         match token.kind {
             TokenKind::Word => {
                 if !is_name(text(bytes, token)) {
-                    return Err(GrammarError::Syntax);
+                    return Err(FileError::Syntax(line));
                 }
                 self.steps.push(Step::Name(token))?;
                 self.has_unit = true;
@@ -95,15 +96,15 @@ impl Reader {
                 self.here = EMPTY;
                 Ok(())
             }
-            _ => Err(GrammarError::Syntax),
+            _ => Err(FileError::Syntax(line)),
         }
     }
 
     // Behind a unit, only `+`, `*` and a closing parenthesis are right.
-    fn go_on(&mut self, token: Token) -> Result<(), GrammarError>
+    fn go_on(&mut self, line: u32, token: Token) -> Result<(), FileError>
         requires unit { self.old.has_unit ≡ true }
-        ensures state { (bytes : List ℕ) → Advances result (state_in bytes self.new) (next_state (state_in bytes self.old) (symbol_of (lexeme_in bytes token))) }
-        ensures names { OnOk result (name_tokens self.new.steps.items ≡ name_tokens self.old.steps.items ++ where_word token.kind token) }
+        ensures state { (bytes : List ℕ) → Advances line result (state_in bytes self.new) (state_after bytes self.old token) }
+        ensures names { OnOk result (AddsName token self.old.steps.items self.new.steps.items) }
     {
         match token.kind {
             TokenKind::Plus => {
@@ -124,31 +125,31 @@ impl Reader {
             TokenKind::Close => {
                 end_level(&mut self.steps, self.here)?;
                 let Some(level) = self.outer.pop() else {
-                    return Err(GrammarError::Syntax);
+                    return Err(FileError::Syntax(line));
                 };
                 self.here = level;
                 Ok(())
             }
-            _ => Err(GrammarError::Syntax),
+            _ => Err(FileError::Syntax(line)),
         }
     }
 
     // Reads one more token.
-    fn advance(&mut self, bytes: &[u8], token: Token) -> Result<(), GrammarError>
+    fn advance(&mut self, line: u32, bytes: &[u8], token: Token) -> Result<(), FileError>
         requires { IsWithin (length bytes.now) token }
-        ensures state { Advances result (state_in bytes.now self.new) (next_state (state_in bytes.now self.old) (symbol_of (lexeme_in bytes.now token))) }
-        ensures names { OnOk result (name_tokens self.new.steps.items ≡ name_tokens self.old.steps.items ++ where_word token.kind token) }
+        ensures state { Advances line result (state_in bytes.now self.new) (state_after bytes.now self.old token) }
+        ensures names { OnOk result (AddsName token self.old.steps.items self.new.steps.items) }
     {
         if self.has_unit {
-            self.go_on(token)
+            self.go_on(line, token)
         } else {
-            self.begin(bytes, token)
+            self.begin(line, bytes, token)
         }
     }
 
     // The steps, where the expression may end.
-    fn finish(self) -> Result<Vec<Step>, GrammarError>
-        ensures steps { (bytes : List ℕ) → Gives bytes result (final_steps (state_in bytes self)) }
+    fn finish(self, line: u32) -> Result<Vec<Step>, FileError>
+        ensures steps { (bytes : List ℕ) → GivesSteps line bytes result (final_steps (state_in bytes self)) }
         ensures names { IfOk result (λ v. name_tokens v.items ≡ name_tokens self.steps.items) }
     {
         let Reader {
@@ -158,7 +159,7 @@ impl Reader {
             has_unit,
         } = self;
         if !outer.is_empty() || !has_unit {
-            return Err(GrammarError::Syntax);
+            return Err(FileError::Syntax(line));
         }
         end_level(&mut steps, here)?;
         Ok(steps)
@@ -168,16 +169,17 @@ impl Reader {
 /// The steps of an expression, in post-order.
 pub(crate) fn expression(
     alloc: Global,
+    line: u32,
     bytes: &[u8],
     tokens: &[Token],
-) -> Result<Vec<Step>, GrammarError>
+) -> Result<Vec<Step>, FileError>
     requires { All (IsWithin (length bytes.now)) tokens.now }
-    ensures steps { Gives bytes.now result (steps_from start (symbols_in bytes.now tokens.now)) }
+    ensures steps { GivesSteps line bytes.now result (steps_from initial_state (symbols_in bytes.now tokens.now)) }
     ensures names { IfOk result (λ v. name_tokens v.items ≡ word_tokens tokens.now) }
 {
     let mut reader = Reader::new(alloc);
     for token in tokens {
-        reader.advance(bytes, *token)?;
+        reader.advance(line, bytes, *token)?;
     }
-    reader.finish()
+    reader.finish(line)
 }

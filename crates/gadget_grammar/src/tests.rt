@@ -1,10 +1,11 @@
 //! Lines that are read, and lines that are refused.
 
 ghost use Rattle.std.specs.Prelude.{◌≤◌, All, IfOk, length};
+ghost use Rattle.gadget_text.specs.Limits.{most_file_bytes};
 ghost use Rattle.gadget_grammar.specs.Seen.{IsStepWithin};
 
 use super::*;
-use gadget_text::tokens;
+use gadget_text::{FileError, LineTokens, MOST_FILE_BYTES, What, tokens};
 use std::alloc::{AllocError, Global};
 use std::test::Fail;
 
@@ -44,18 +45,22 @@ const REFUSED: [&str; 16] = [
     "x",
 ];
 
-fn read(alloc: Global, line: &[u8]) -> Result<Assignment, GrammarError>
-    requires { length line.now ≤ 1048576 }
-    ensures { IfOk result (λ a. All (IsStepWithin (length line.now)) a.steps.items) }
+// What the first line says.
+fn read(alloc: Global, text: &[u8]) -> Result<Assignment, FileError>
+    requires { length text.now ≤ most_file_bytes }
+    ensures { IfOk result (λ a. All (IsStepWithin (length text.now)) a.steps.items) }
 {
-    let Ok(tokens) = tokens(alloc, line) else {
-        return Err(GrammarError::OutOfMemory);
+    let tokens = tokens(alloc, text)?;
+    let line = LineTokens {
+        line: 1,
+        tokens: &tokens,
+        rest: &[],
     };
-    assignment(alloc, line, &tokens)
+    assignment(alloc, text, &line)
 }
 
-// Steps as a text, with a space behind each.
-fn text(alloc: Global, line: &[u8], steps: &[Step]) -> Result<Vec<u8>, GrammarError>
+// Steps as a text, with a space after each.
+fn text(alloc: Global, line: &[u8], steps: &[Step]) -> Result<Vec<u8>, FileError>
     requires { All (IsStepWithin (length line.now)) steps.now }
 {
     let mut text = Vec::new(alloc);
@@ -91,7 +96,7 @@ fn nested(alloc: Global, depth: usize, is_closed: bool) -> Result<Vec<u8>, Alloc
 #[test]
 fn reads_lines(rt: HostRuntime) -> Result<(), Fail> {
     for (line, steps) in READ {
-        assert!(rt; line.len() <= 1_048_576);
+        assert!(rt; line.len() <= MOST_FILE_BYTES);
         let assignment = read(rt.alloc(), line.as_bytes())?;
         let text = text(rt.alloc(), line.as_bytes(), &assignment.steps)?;
         assert_eq!(rt; text.as_slice(), steps.as_bytes());
@@ -109,10 +114,10 @@ fn names_the_left_side(rt: HostRuntime) -> Result<(), Fail> {
 #[test]
 fn refuses_lines(rt: HostRuntime) -> Result<(), Fail> {
     for line in REFUSED {
-        assert!(rt; line.len() <= 1_048_576);
+        assert!(rt; line.len() <= MOST_FILE_BYTES);
         match read(rt.alloc(), line.as_bytes()) {
             Ok(_) => assert!(rt; false),
-            Err(error) => assert_eq!(rt; error, GrammarError::Syntax),
+            Err(error) => assert_eq!(rt; error, FileError::Syntax(1)),
         }
     }
     Ok(())
@@ -122,12 +127,12 @@ fn refuses_lines(rt: HostRuntime) -> Result<(), Fail> {
 fn nests_to_64(rt: HostRuntime) -> Result<(), Fail> {
     for (depth, is_closed, wanted) in [
         (64, true, None),
-        (64, false, Some(GrammarError::Syntax)),
-        (65, true, Some(GrammarError::Nesting)),
-        (65, false, Some(GrammarError::Nesting)),
+        (64, false, Some(FileError::Syntax(1))),
+        (65, true, Some(FileError::TooMany(What::Nesting))),
+        (65, false, Some(FileError::TooMany(What::Nesting))),
     ] {
         let line = nested(rt.alloc(), depth, is_closed)?;
-        assert!(rt; line.len() <= 1_048_576);
+        assert!(rt; line.len() <= MOST_FILE_BYTES);
         assert_eq!(rt; read(rt.alloc(), &line).err(), wanted);
     }
     Ok(())

@@ -1,4 +1,3 @@
-pub mod Errors
 pub mod Headers
 pub mod Limits
 pub mod Seen

@@ -1,16 +1,17 @@
 //! All headers of a file.
 
-ghost use Rattle.std.specs.Prelude.{◌≡◌, ℕ, List, All, length, Ok, Err, IfOk, MatchResult};
+ghost use Rattle.std.specs.Prelude.{◌≡◌, ℕ, List, All, length, IfOk};
+ghost use Rattle.gadget_text.specs.declared.token.Token.{Token};
+ghost use Rattle.gadget_text.specs.Errors.{Gives, Is};
 ghost use Rattle.gadget_text.specs.Places.{IsWithin, lines_in};
 ghost use Rattle.gadget_headers.specs.Headers.{preamble_of, end_headers};
 ghost use Rattle.gadget_headers.specs.Limits.{KeepsLimits};
-ghost use Rattle.gadget_headers.specs.Seen.{Gives, preamble_in, so_far_in, IsSoFarWithin, AreHeadersWithin};
+ghost use Rattle.gadget_headers.specs.Seen.{preamble_in, so_far_in, EndsWith, IsSoFarOf, AreHeadersOf, AreHeadersWithin};
 
-use crate::file_error::FileError;
 use crate::header_line::header_line;
 use crate::so_far::{SoFar, no_headers, with_header};
 use crate::stems::Stems;
-use gadget_text::{Header, Token};
+use gadget_text::{FileError, Header, Token};
 
 /// What the headers of a file say.
 #[derive(Clone, Copy)]
@@ -21,41 +22,34 @@ pub struct Headers<'a> {
     /// `None` where the file has no such line.
     pub randoms: Option<Stems<'a>>,
     pub outputs: Stems<'a>,
-    /// The tokens behind the headers: those of the first assignment line and of all lines behind it.
+    /// The tokens after the headers: those of the first assignment line and of all lines after it.
     pub rest: &'a [Token],
 }
 
 // What the headers say, where they end in front of these tokens.
 fn end_headers<'a>(so_far: SoFar<'a>, rest: &'a [Token]) -> Result<Headers<'a>, FileError>
-    ensures says { (bytes : List ℕ) → Gives (preamble_in bytes) result (end_headers (so_far_in bytes so_far.entry) (lines_in bytes rest.now)) }
-    ensures within { IfOk result (λ h. (len : ℕ) → IsSoFarWithin len so_far.entry → All (IsWithin len) rest.now → AreHeadersWithin len h) }
+    ensures says { (bytes : List ℕ) →
+        Gives (preamble_in bytes) result (Is (end_headers (so_far_in bytes so_far.entry) (lines_in bytes rest.now))) }
+    ensures pieces { IfOk result (λ h. (all : List Token) →
+        IsSoFarOf all so_far.entry → EndsWith all rest.now → AreHeadersOf all h) }
 {
-    let Some(shares) = so_far.shares else {
-        return Err(FileError::HeaderMissing(Header::Shares));
-    };
-    let Some(inputs) = so_far.inputs else {
-        return Err(FileError::HeaderMissing(Header::In));
-    };
-    let Some(outputs) = so_far.outputs else {
-        return Err(FileError::HeaderMissing(Header::Out));
-    };
     Ok(Headers {
-        shares,
-        inputs,
+        shares: so_far.shares.ok_or(FileError::HeaderMissing(Header::Shares))?,
+        inputs: so_far.inputs.ok_or(FileError::HeaderMissing(Header::In))?,
         randoms: so_far.randoms,
-        outputs,
+        outputs: so_far.outputs.ok_or(FileError::HeaderMissing(Header::Out))?,
         rest,
     })
 }
 
-/// What the headers of a file with these tokens say; or the first offence of a header line, or the first header that is missing
-/// where the headers end. Time is linear in the length of the header lines and of
-/// the line behind them.
+/// What the headers of a file with these tokens say; or the first offence of a header line, or the first header that is
+/// missing where the headers end. Time is linear in the length of the header lines and of the line after them.
 pub fn read_headers<'a>(bytes: &[u8], tokens: &'a [Token]) -> Result<Headers<'a>, FileError>
     requires within { All (IsWithin (length bytes.now)) tokens.now }
-    ensures says { MatchResult result (λ h. preamble_of (lines_in bytes.now tokens.now) ≡ Ok (preamble_in bytes.now h)) (λ e. preamble_of (lines_in bytes.now tokens.now) ≡ Err e) }
+    ensures says { Gives (preamble_in bytes.now) result (Is (preamble_of (lines_in bytes.now tokens.now))) }
     ensures limits { IfOk result (λ h. KeepsLimits (preamble_in bytes.now h)) }
-    ensures within { IfOk result (λ h. AreHeadersWithin (length bytes.now) h) }
+    ensures pieces { IfOk result (AreHeadersOf tokens.now) }
+    ensures within { IfOk result (AreHeadersWithin (length bytes.now)) }
 {
     let mut so_far = no_headers();
     let mut rest = tokens;

@@ -1,14 +1,12 @@
-//! The header lines of a gadget file, and why a file is refused.
+//! The header lines of a gadget file.
 #![tactic(auto)]
 
-mod file_error;
 mod header_line;
 mod headers;
 mod number;
 mod so_far;
 mod stems;
 
-pub use file_error::{FileError, What};
 pub use headers::{Headers, read_headers};
 pub use stems::Stems;
 

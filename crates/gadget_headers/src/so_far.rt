@@ -1,18 +1,18 @@
 //! What the header lines say, one after the other.
 
-ghost use Rattle.std.specs.Prelude.{◌≡◌, ℕ, List, All, IfOk, MatchResult, Result, Err, length};
+ghost use Rattle.std.specs.Prelude.{◌≡◌, ℕ, List, All, IfOk, length};
 ghost use Rattle.gadget_text.specs.declared.token.Header.TheVariants.{In, Out, Randoms};
+ghost use Rattle.gadget_text.specs.declared.token.Token.{Token};
+ghost use Rattle.gadget_text.specs.Errors.{Gives, Is};
 ghost use Rattle.gadget_text.specs.Places.{IsWithin};
-ghost use Rattle.gadget_headers.specs.declared.file_error.FileError.{FileError};
-ghost use Rattle.gadget_headers.specs.Headers as said;
-ghost use Rattle.gadget_headers.specs.Headers.{no_headers, one_word, with_profile, with_shares, with_header};
-ghost use Rattle.gadget_headers.specs.Seen.{Gives, so_far_in, texts_in, IsSoFarWithin};
+ghost use Rattle.gadget_headers.specs.Headers.{no_headers, one_word, with_profile, with_shares};
+ghost use Rattle.gadget_headers.specs.Seen.{so_far_in, texts_in, header_said, line_said, IsSoFarOf, StaysOf};
 
-use crate::file_error::{FileError, What};
 use crate::header_line::HeaderLine;
 use crate::number::number_to_255;
 use crate::stems::{Stems, listed};
-use gadget_text::{Header, Token, is_number, text};
+use gadget_limits::{MOST_INPUTS, MOST_OUTPUTS, MOST_RANDOMS, MOST_SHARES};
+use gadget_text::{FileError, Header, Token, What, is_number, text};
 
 /// What the headers so far say; `None` where a header hasn't come.
 #[derive(Clone, Copy)]
@@ -27,7 +27,7 @@ pub(crate) struct SoFar<'a> {
 /// No header has come.
 pub(crate) fn no_headers<'a>() -> SoFar<'a>
     ensures says { (bytes : List ℕ) → so_far_in bytes result ≡ no_headers }
-    ensures within { (len : ℕ) → IsSoFarWithin len result }
+    ensures pieces { (all : List Token) → IsSoFarOf all result }
 {
     SoFar {
         has_profile: false,
@@ -40,8 +40,9 @@ pub(crate) fn no_headers<'a>() -> SoFar<'a>
 
 // With the word of `#PROFILE`.
 fn with_profile<'a>(line: u32, so_far: SoFar<'a>, word: &[u8]) -> Result<SoFar<'a>, FileError>
-    ensures says { (bytes : List ℕ) → Gives (so_far_in bytes) result (with_profile line (so_far_in bytes so_far.entry) word.now) }
-    ensures within { IfOk result (λ h. (len : ℕ) → IsSoFarWithin len so_far.entry → IsSoFarWithin len h) }
+    ensures says { (bytes : List ℕ) →
+        Gives (so_far_in bytes) result (Is (with_profile line (so_far_in bytes so_far.entry) word.now)) }
+    ensures pieces { IfOk result (λ h. (words : List Token) → StaysOf words so_far.entry h) }
 {
     if so_far.has_profile {
         return Err(FileError::HeaderTwice(line));
@@ -57,8 +58,9 @@ fn with_profile<'a>(line: u32, so_far: SoFar<'a>, word: &[u8]) -> Result<SoFar<'
 
 // With the word of `#SHARES`.
 fn with_shares<'a>(line: u32, so_far: SoFar<'a>, word: &[u8]) -> Result<SoFar<'a>, FileError>
-    ensures says { (bytes : List ℕ) → Gives (so_far_in bytes) result (with_shares line (so_far_in bytes so_far.entry) word.now) }
-    ensures within { IfOk result (λ h. (len : ℕ) → IsSoFarWithin len so_far.entry → IsSoFarWithin len h) }
+    ensures says { (bytes : List ℕ) →
+        Gives (so_far_in bytes) result (Is (with_shares line (so_far_in bytes so_far.entry) word.now)) }
+    ensures pieces { IfOk result (λ h. (words : List Token) → StaysOf words so_far.entry h) }
 {
     if so_far.shares.is_some() {
         return Err(FileError::HeaderTwice(line));
@@ -67,7 +69,7 @@ fn with_shares<'a>(line: u32, so_far: SoFar<'a>, word: &[u8]) -> Result<SoFar<'a
     if !is_number(word) || shares == 0 {
         return Err(FileError::BadNumber(line));
     }
-    if 16 < shares {
+    if MOST_SHARES < shares {
         return Err(FileError::TooMany(What::Shares));
     }
     Ok(SoFar {
@@ -84,14 +86,14 @@ fn with_inputs<'a>(
     words: &'a [Token],
 ) -> Result<SoFar<'a>, FileError>
     requires { All (IsWithin (length bytes.now)) words.now }
-    ensures says { Gives (so_far_in bytes.now) result (with_header line (so_far_in bytes.now so_far.entry) (texts_in bytes.now words.now) In) }
-    ensures within { IfOk result (λ h. IsSoFarWithin (length bytes.now) so_far.entry → IsSoFarWithin (length bytes.now) h) }
+    ensures says { Gives (so_far_in bytes.now) result (Is (header_said bytes.now line so_far.entry words.now In)) }
+    ensures pieces { IfOk result (StaysOf words.now so_far.entry) }
 {
     if words.is_empty() {
         return Err(FileError::Syntax(line));
     }
     let is_twice = so_far.inputs.is_some();
-    let inputs = listed(bytes, line, is_twice, 4, What::Inputs, words)?;
+    let inputs = listed(bytes, line, is_twice, MOST_INPUTS, What::Inputs, words)?;
     Ok(SoFar {
         inputs: Some(inputs),
         ..so_far
@@ -106,11 +108,11 @@ fn with_randoms<'a>(
     words: &'a [Token],
 ) -> Result<SoFar<'a>, FileError>
     requires { All (IsWithin (length bytes.now)) words.now }
-    ensures says { Gives (so_far_in bytes.now) result (with_header line (so_far_in bytes.now so_far.entry) (texts_in bytes.now words.now) Randoms) }
-    ensures within { IfOk result (λ h. IsSoFarWithin (length bytes.now) so_far.entry → IsSoFarWithin (length bytes.now) h) }
+    ensures says { Gives (so_far_in bytes.now) result (Is (header_said bytes.now line so_far.entry words.now Randoms)) }
+    ensures pieces { IfOk result (StaysOf words.now so_far.entry) }
 {
     let is_twice = so_far.randoms.is_some();
-    let randoms = listed(bytes, line, is_twice, 128, What::Randoms, words)?;
+    let randoms = listed(bytes, line, is_twice, MOST_RANDOMS, What::Randoms, words)?;
     Ok(SoFar {
         randoms: Some(randoms),
         ..so_far
@@ -125,14 +127,14 @@ fn with_outputs<'a>(
     words: &'a [Token],
 ) -> Result<SoFar<'a>, FileError>
     requires { All (IsWithin (length bytes.now)) words.now }
-    ensures says { Gives (so_far_in bytes.now) result (with_header line (so_far_in bytes.now so_far.entry) (texts_in bytes.now words.now) Out) }
-    ensures within { IfOk result (λ h. IsSoFarWithin (length bytes.now) so_far.entry → IsSoFarWithin (length bytes.now) h) }
+    ensures says { Gives (so_far_in bytes.now) result (Is (header_said bytes.now line so_far.entry words.now Out)) }
+    ensures pieces { IfOk result (StaysOf words.now so_far.entry) }
 {
     if words.is_empty() {
         return Err(FileError::Syntax(line));
     }
     let is_twice = so_far.outputs.is_some();
-    let outputs = listed(bytes, line, is_twice, 2, What::Outputs, words)?;
+    let outputs = listed(bytes, line, is_twice, MOST_OUTPUTS, What::Outputs, words)?;
     Ok(SoFar {
         outputs: Some(outputs),
         ..so_far
@@ -142,7 +144,7 @@ fn with_outputs<'a>(
 // The word of a header that takes exactly one.
 fn only_word<'b>(bytes: &'b [u8], line: u32, words: &[Token]) -> Result<&'b [u8], FileError>
     requires { All (IsWithin (length bytes.now)) words.now }
-    ensures { MatchResult result (λ w. (go : List ℕ → Result said.SoFar FileError) → one_word line (texts_in bytes.now words.now) go ≡ go w.now) (λ e. (go : List ℕ → Result said.SoFar FileError) → one_word line (texts_in bytes.now words.now) go ≡ Err e) }
+    ensures { Gives (λ word. word.now) result (Is (one_word line (texts_in bytes.now words.now))) }
 {
     if words.len() != 1 {
         return Err(FileError::Syntax(line));
@@ -157,8 +159,8 @@ pub(crate) fn with_header<'a>(
     line: HeaderLine<'a>,
 ) -> Result<SoFar<'a>, FileError>
     requires { All (IsWithin (length bytes.now)) line.words.now }
-    ensures says { Gives (so_far_in bytes.now) result (with_header line.entry.line (so_far_in bytes.now so_far.entry) (texts_in bytes.now line.entry.words.now) line.entry.header) }
-    ensures within { IfOk result (λ h. IsSoFarWithin (length bytes.now) so_far.entry → IsSoFarWithin (length bytes.now) h) }
+    ensures says { Gives (so_far_in bytes.now) result (Is (line_said bytes.now so_far.entry line.entry)) }
+    ensures pieces { IfOk result (StaysOf line.entry.words.now so_far.entry) }
 {
     let HeaderLine {
         line,

@@ -4,11 +4,11 @@ ghost use Rattle.std.specs.Prelude.{◌≡◌, All, IfOk, length};
 ghost use Rattle.std.specs.List.{list_all};
 ghost use Rattle.gadget_text.specs.Names.{is_stem};
 ghost use Rattle.gadget_text.specs.Places.{IsWithin};
+ghost use Rattle.gadget_text.specs.Errors.{Gives, Is};
 ghost use Rattle.gadget_headers.specs.Headers.{listed};
-ghost use Rattle.gadget_headers.specs.Seen.{Gives, listed_in, texts_in, AreWordsWithin};
+ghost use Rattle.gadget_headers.specs.Seen.{listed_in, texts_in};
 
-use crate::file_error::{FileError, What};
-use gadget_text::{Token, is_stem, text};
+use gadget_text::{FileError, Token, What, is_stem, text};
 
 /// The stems that a header lists.
 #[derive(Clone, Copy)]
@@ -41,8 +41,9 @@ pub(crate) fn listed<'a>(
     words: &'a [Token],
 ) -> Result<Stems<'a>, FileError>
     requires { All (IsWithin (length bytes.now)) words.now }
-    ensures says { Gives (listed_in bytes.now) result (listed line is_twice most things (texts_in bytes.now words.now)) }
-    ensures within { IfOk result (AreWordsWithin (length bytes.now)) }
+    ensures says {
+        Gives (listed_in bytes.now) result (Is (listed line is_twice most things (texts_in bytes.now words.now))) }
+    ensures words { IfOk result (λ stems. stems.words.now ≡ words.now) }
 {
     if is_twice {
         return Err(FileError::HeaderTwice(line));

@@ -1,9 +1,10 @@
 //! Header lines that are read, and header lines that are refused.
 
 ghost use Rattle.std.specs.Prelude.{◌≤◌, length};
+ghost use Rattle.gadget_text.specs.Limits.{most_file_bytes};
 
 use super::*;
-use gadget_text::{Header, TextError, tokens};
+use gadget_text::{FileError, Header, MOST_FILE_BYTES, TextError, What, tokens};
 use std::alloc::{AllocError, Global};
 use std::test::Fail;
 
@@ -170,7 +171,7 @@ fn is_read_as(
     text: &[u8],
     expected: Result<Said, FileError>,
 ) -> Result<bool, TextError>
-    requires { length text.now ≤ 1048576 }
+    requires { length text.now ≤ most_file_bytes }
 {
     let tokens = tokens(alloc, text)?;
     match (read_headers(text, &tokens), expected) {
@@ -183,14 +184,14 @@ fn is_read_as(
 #[test]
 fn reads_and_refuses_headers(rt: HostRuntime) -> Result<(), Fail> {
     for (text, said) in READ {
-        assert!(rt; text.len() <= 1_048_576);
+        assert!(rt; text.len() <= MOST_FILE_BYTES);
         assert!(rt;
             is_read_as(rt.alloc(), text.as_bytes(), Ok(said))?,
             "{text}"
         );
     }
     for (text, offence) in REFUSED {
-        assert!(rt; text.len() <= 1_048_576);
+        assert!(rt; text.len() <= MOST_FILE_BYTES);
         assert!(rt;
             is_read_as(rt.alloc(), text.as_bytes(), Err(offence))?,
             "{text}"
@@ -219,7 +220,7 @@ fn takes_128_randoms(rt: HostRuntime) -> Result<(), Fail> {
         (127, " 1", FileError::BadName(1)),
     ] {
         let text = randoms(rt.alloc(), count, word)?;
-        assert!(rt; text.len() <= 1_048_576);
+        assert!(rt; text.len() <= MOST_FILE_BYTES);
         assert!(rt;
             is_read_as(rt.alloc(), &text, Err(offence))?,
             "{count}{word}"

@@ -13,3 +13,5 @@ pub mod Dots
 pub mod NameParts
 pub mod WordBytes
 pub mod SpacedWords
+pub mod Results
+pub mod Gives

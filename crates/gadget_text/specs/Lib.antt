@@ -4,3 +4,5 @@ pub mod Segments
 pub mod Tokens
 pub mod Places
 pub mod Names
+pub mod Errors
+pub mod Limits

@@ -3,6 +3,7 @@ use Rattle.std.specs.Prelude.{◌≡◌, ℕ, ◌+◌, ◌<◌, ◌≤◌, ◌==
 use Rattle.gadget_text.specs.declared.token.Token.{Token}
 use Rattle.gadget_text.specs.declared.token.TextError.{TextError}
 use Rattle.gadget_text.specs.declared.token.TextError.TheVariants.{NotText, OutOfMemory}
+use Rattle.gadget_text.specs.declared.line_tokens.LineTokens.{LineTokens}
 use Rattle.gadget_text.specs.Lines.{pieces_of, without_return}
 use Rattle.gadget_text.specs.Segments.{Segment, gap, token, line_segments}
 use Rattle.gadget_text.specs.Tokens.{Lexeme, TokenLine}
@@ -41,6 +42,10 @@ lexeme_in bytes t = record { kind = t.kind; text = text_in bytes t }
 -- the tokens without their places
 abbrev pub lexemes_in : List ℕ → List Token → List Lexeme
 lexemes_in bytes tokens = map (lexeme_in bytes) tokens
+
+-- the line of tokens that the code tells apart
+abbrev pub line_of : List ℕ → LineTokens → TokenLine
+line_of bytes line = record { number = line.line; lexemes = lexemes_in bytes line.tokens.now }
 
 -- the token lies within so many bytes
 pub record IsWithin (len : ℕ) (t : Token) : Type 0 where

@@ -3,6 +3,7 @@
 ghost use Rattle.std.specs.Prelude.{◌≡◌, ◌+◌, ◌^◌, ◌<◌, ◌≤◌, ◌++◌, [], ◌∷◌, None, true, length, drop, IfOk, IfErr, OnOk};
 ghost use Rattle.std.specs.List.{position_or_len, prefix_len};
 ghost use Rattle.gadget_text.specs.Bytes.{is_feed, is_blank, is_in_word};
+ghost use Rattle.gadget_text.specs.Limits.{most_file_bytes};
 ghost use Rattle.gadget_text.specs.Lines.{header_word, lines_of, line_kind, kept_part, is_text, first_not_text};
 ghost use Rattle.gadget_text.specs.Segments.{segments, header_segments, line_segments};
 ghost use Rattle.gadget_text.specs.Places.{placed, tokens_of, NamesLine};
@@ -14,6 +15,9 @@ use crate::line_kind::LineKind;
 use crate::token::{Header, TextError, Token, TokenKind};
 use crate::words::Words;
 use std::alloc::{AllocError, Global};
+
+/// A file has at most this many bytes, a mebibyte.
+pub const MOST_FILE_BYTES: usize = 1_048_576;
 
 // How many bytes from the front on stand in words.
 fn word_len(words: Words, bytes: &[u8]) -> usize
@@ -38,7 +42,9 @@ fn add_segment(
 ) -> Result<usize, AllocError>
     requires some { 0 < length bytes.now }
     requires fits { at + length bytes.now < 2 ^ 32 }
-    ensures tokens { IfOk result (λ n. tokens.new.items ++ placed line (at + n) (segments words (drop n bytes.now)) ≡ tokens.old.items ++ placed line at (segments words bytes.now)) }
+    ensures tokens { IfOk result (λ n.
+        tokens.new.items ++ placed line (at + n) (segments words (drop n bytes.now))
+        ≡ tokens.old.items ++ placed line at (segments words bytes.now)) }
     ensures some { IfOk result (λ n. 0 < n) }
     ensures within { IfOk result (λ n. n ≤ length bytes.now) }
 {
@@ -172,7 +178,7 @@ fn behind_line(bytes: &[u8], len: usize) -> &[u8]
 /// and the bytes 32 to 126 there; otherwise the first line that has another byte is the answer.
 /// Time is linear in the length of the file.
 pub fn tokens(alloc: Global, bytes: &[u8]) -> Result<Vec<Token>, TextError>
-    requires { length bytes.now ≤ 1048576 }
+    requires { length bytes.now ≤ most_file_bytes }
     ensures tokens { IfOk result (λ v. v.items ≡ tokens_of bytes.now) }
     ensures text { OnOk result (first_not_text 1 (lines_of bytes.now) ≡ None) }
     ensures not_text { IfErr result (NamesLine (first_not_text 1 (lines_of bytes.now))) }

@@ -4,6 +4,7 @@
 
 mod byte;
 mod file;
+mod file_error;
 mod header;
 mod laws;
 mod line;
@@ -13,7 +14,8 @@ mod name;
 mod token;
 mod words;
 
-pub use file::tokens;
+pub use file::{MOST_FILE_BYTES, tokens};
+pub use file_error::{FileError, What};
 pub use laws::{lines_law, name_law, segments_law, slices_law, spans_law, words_law};
 pub use line_tokens::{LineTokens, first_line};
 pub use name::{is_name, is_number, is_stem};

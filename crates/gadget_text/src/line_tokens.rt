@@ -2,7 +2,7 @@
 
 ghost use Rattle.std.specs.Prelude.{◌≡◌, ◌+◌, ◌≤◌, ◌<◌, ◌==◌, ◌++◌, ◌∷◌, [], ℕ, List, length, take, drop, IfNone, IfSome};
 ghost use Rattle.std.specs.List.{prefix_len};
-ghost use Rattle.gadget_text.specs.Places.{lexemes_in, lines_in};
+ghost use Rattle.gadget_text.specs.Places.{line_of, lines_in};
 
 use crate::token::Token;
 
@@ -46,7 +46,7 @@ fn split_at<'a>(line: u32, tokens: &'a [Token], len: usize) -> LineTokens<'a>
 /// The first line of tokens, where there is one. Time is linear in how many tokens it has.
 pub fn first_line(tokens: &[Token]) -> Option<LineTokens<'_>>
     ensures none { IfNone result (tokens.now ≡ []) }
-    ensures line { IfSome result (λ l. (bytes : List ℕ) → lines_in bytes tokens.now ≡ record { number = l.line; lexemes = lexemes_in bytes l.tokens.now } ∷ lines_in bytes l.rest.now) }
+    ensures line { IfSome result (λ l. (bytes : List ℕ) → lines_in bytes tokens.now ≡ line_of bytes l ∷ lines_in bytes l.rest.now) }
     ensures some { IfSome result (λ l. 0 < length l.tokens.now) }
     ensures parts { IfSome result (λ l. l.tokens.now ++ l.rest.now ≡ tokens.now) }
 {

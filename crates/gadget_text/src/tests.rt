@@ -1,6 +1,7 @@
 //! Files and their tokens, worked out by hand.
 
 ghost use Rattle.std.specs.Prelude.{◌≤◌, length};
+ghost use Rattle.gadget_text.specs.Limits.{most_file_bytes};
 
 use super::*;
 use std::alloc::Global;
@@ -18,7 +19,7 @@ fn token(kind: TokenKind, from: u32, to: u32, line: u32) -> Token {
 
 // Whether a file has these tokens.
 fn has_tokens(alloc: Global, bytes: &[u8], expected: &[Token]) -> Result<bool, TextError>
-    requires { length bytes.now ≤ 1048576 }
+    requires { length bytes.now ≤ most_file_bytes }
 {
     let tokens = tokens(alloc, bytes)?;
     Ok(*tokens == *expected)
@@ -26,7 +27,7 @@ fn has_tokens(alloc: Global, bytes: &[u8], expected: &[Token]) -> Result<bool, T
 
 // The line that is no text, or 0.
 fn line_that_is_no_text(alloc: Global, bytes: &[u8]) -> Result<u32, TextError>
-    requires { length bytes.now ≤ 1048576 }
+    requires { length bytes.now ≤ most_file_bytes }
 {
     match tokens(alloc, bytes) {
         Ok(_) => Ok(0),
@@ -58,7 +59,7 @@ fn shows_all_lines_and_tokens(rt: HostRuntime) -> Result<(), Fail> {
         token(TokenKind::Word, 57, 58, 5),
         token(TokenKind::Plus, 58, 59, 5),
     ];
-    assert!(rt; text.len() <= 1_048_576);
+    assert!(rt; text.len() <= MOST_FILE_BYTES);
     assert!(rt; has_tokens(rt.alloc(), text.as_bytes(), expected.as_slice())?);
     Ok(())
 }
@@ -73,10 +74,10 @@ fn drops_one_return_of_a_line(rt: HostRuntime) -> Result<(), Fail> {
         token(TokenKind::Equals, 10, 11, 2),
         token(TokenKind::Word, 12, 13, 2),
     ];
-    assert!(rt; text.len() <= 1_048_576);
+    assert!(rt; text.len() <= MOST_FILE_BYTES);
     assert!(rt; has_tokens(rt.alloc(), text.as_bytes(), expected.as_slice())?);
     for (text, line) in [("\r\n\r", 0), ("x\n\r\r\n", 2), ("x\ry\n", 1)] {
-        assert!(rt; text.len() <= 1_048_576);
+        assert!(rt; text.len() <= MOST_FILE_BYTES);
         assert_eq!(rt;
             line_that_is_no_text(rt.alloc(), text.as_bytes())?,
             line,
@@ -96,7 +97,7 @@ fn stops_at_a_comment(rt: HostRuntime) -> Result<(), Fail> {
         token(TokenKind::Plus, 8, 9, 1),
         token(TokenKind::Word, 10, 12, 1),
     ];
-    assert!(rt; text.len() <= 1_048_576);
+    assert!(rt; text.len() <= MOST_FILE_BYTES);
     assert!(rt; has_tokens(rt.alloc(), text.as_bytes(), expected.as_slice())?);
     Ok(())
 }
@@ -110,14 +111,14 @@ fn tells_headers_from_comments(rt: HostRuntime) -> Result<(), Fail> {
         ("#RANDOMS#", Header::Randoms, 8),
     ] {
         let expected = [token(TokenKind::Head(header), 0, to, 1)];
-        assert!(rt; text.len() <= 1_048_576);
+        assert!(rt; text.len() <= MOST_FILE_BYTES);
         assert!(rt;
             has_tokens(rt.alloc(), text.as_bytes(), expected.as_slice())?,
             "{text}"
         );
     }
     for text in ["", "#", "#IN=", "# SHARES", "#INX", "#in", "##IN", "#OU"] {
-        assert!(rt; text.len() <= 1_048_576);
+        assert!(rt; text.len() <= MOST_FILE_BYTES);
         assert!(rt; has_tokens(rt.alloc(), text.as_bytes(), &[])?, "{text}");
     }
     Ok(())
@@ -133,7 +134,7 @@ fn refuses_a_forbidden_byte_where_bytes_count(rt: HostRuntime) -> Result<(), Fai
         (b"#IN a\xc8\n", 1),
     ];
     for (bytes, line) in cases {
-        assert!(rt; bytes.len() <= 1_048_576);
+        assert!(rt; bytes.len() <= MOST_FILE_BYTES);
         assert_eq!(rt; line_that_is_no_text(rt.alloc(), bytes)?, line);
     }
     Ok(())

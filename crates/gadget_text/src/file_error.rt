@@ -1,10 +1,10 @@
 //! Why a gadget file is refused.
 
 ghost use Rattle.std.specs.Prelude.{◌≡◌};
-ghost use Rattle.gadget_headers.specs.declared.file_error.FileError.TheVariants.{OutOfMemory};
-ghost use Rattle.gadget_headers.specs.Errors.{error_of_text};
+ghost use Rattle.gadget_text.specs.declared.file_error.FileError.TheVariants.{OutOfMemory};
+ghost use Rattle.gadget_text.specs.Errors.{error_of_text};
 
-use gadget_text::{Header, TextError};
+use crate::token::{Header, TextError};
 use std::alloc::{AllocError, AllocFailed};
 
 /// What a file has too many of.
