@@ -9,3 +9,4 @@ pub mod Depth
 pub mod Lines
 pub mod Words
 pub mod Decided
+pub mod Said

@@ -1,5 +1,6 @@
 -- The canonical text of a gadget reads again as the same gadget, apart from the lines of its variables.
 use Rattle.std.proofs.Common.{◌≡◌, ◌<◌, ◌+◌, ℕ, Bool, true, cond, not, IsTrue, List, [], ◌∷◌, ◌++◌, length, get_or, map, Option, Some, None, Result, Ok, refl, sym, ap, ◌∙◌, subst, arith, length-append}
+use Rattle.std.specs.Prelude.{option_map}
 use Rattle.std.specs.List.{All, AllByRecursion, find, range_with_len}
 use Rattle.std.proofs.lemmas.Bool.{not_from_true}
 use Rattle.std.proofs.lemmas.List.{length-map}
@@ -8,11 +9,12 @@ use Rattle.gadget_model.specs.Circuit.{Variable, Circuit}
 use Rattle.gadget_text.specs.Names.{is_stem}
 use Rattle.gadget_text.specs.Tokens.{TokenLine}
 use Rattle.gadget_text.proofs.WordBytes.{each_weaker}
-use Rattle.gadget_headers.specs.declared.file_error.FileError.{FileError}
+use Rattle.gadget_text.specs.declared.file_error.FileError.{FileError}
 use Rattle.gadget_headers.specs.Headers.{Preamble}
+use Rattle.gadget_text.specs.Errors.{refuse_found, ◌>>◌}
 use Rattle.gadget_headers.specs.Limits.{KeepsLimits, stems_of}
 use Rattle.gadget_tree.specs.Variables.{share_name, share_names, names_of, is_among, place_of, AreDistinct, header_variables}
-use Rattle.gadget_tree.specs.File.{OutputShare, output_shares_from, flat_gadget, complete, with_outputs, file_headers, named_variables, LinesSay, BodySays, Follows, FileSays}
+use Rattle.gadget_tree.specs.File.{OutputShare, output_shares_from, flat_gadget, offence_of, with_outputs, file_headers, named_variables, LinesSay, BodySays, Follows, FileSays}
 use Rattle.gadget_tree.specs.Gadgets.{IsGadget, IsLaidOut}
 use Rattle.gadget_tree.specs.Canonical.{canonical_text, AreEqualButForLines}
 use Rattle.gadget_tree.proofs.Names.{contains_among}
@@ -96,6 +98,10 @@ outputs_below : (g : Circuit) → IsGadget g → AllByRecursion (λ k. k < lengt
 outputs_below g h =
     each_weaker (λ k. k < length g.variables) (λ k. k < length (names_of g.variables)) (λ k l. omega (arith, length-map g.variables (λ (v : Variable). v.name))) g.output_shares
     (recursion_from_All (λ k. k < length g.variables) g.output_shares h.outputs_exist)
+
+-- the end of a file, where this output share is missing or none is
+abbrev complete : Preamble → List Variable → Option OutputShare → Result Circuit FileError
+complete h variables found = refuse_found (option_map offence_of found) >> Ok (flat_gadget h variables)
 
 -- where variables have a gadget's names, no output share is missing
 outputs_found : (g : Circuit) (h : Preamble) (final : List Variable) → IsGadget g → h.shares ≡ g.shares → h.outputs.stems ≡ g.outputs → names_of final ≡ names_of g.variables →

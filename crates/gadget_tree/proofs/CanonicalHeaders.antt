@@ -10,12 +10,13 @@ use Rattle.gadget_text.specs.Lines.{header_word}
 use Rattle.gadget_text.specs.Tokens.{Lexeme, TokenLine}
 use Rattle.gadget_text.specs.Names.{is_stem, is_number}
 use Rattle.gadget_text.proofs.SpacedWords.{word_lexeme, header_lexeme}
-use Rattle.gadget_headers.specs.declared.file_error.FileError.{FileError}
-use Rattle.gadget_headers.specs.declared.file_error.FileError.TheVariants.{BadNumber, BadName, TooMany}
-use Rattle.gadget_headers.specs.declared.file_error.What.{What}
-use Rattle.gadget_headers.specs.declared.file_error.What.TheVariants as what
-use Rattle.gadget_headers.specs.Errors.{unless, ◌>>=◌}
-use Rattle.gadget_headers.specs.Headers.{Listed, SoFar, no_headers, Preamble, number_of, header_of, words_of, some_words, listed, with_shares, with_header, at_line, end_headers, headers_from, preamble_of}
+use Rattle.gadget_text.specs.declared.file_error.FileError.{FileError}
+use Rattle.gadget_text.specs.declared.file_error.FileError.TheVariants.{BadNumber, BadName, TooMany}
+use Rattle.gadget_text.specs.declared.file_error.What.{What}
+use Rattle.gadget_text.specs.declared.file_error.What.TheVariants as what
+use Rattle.gadget_limits.specs.Limits.{most_shares, most_inputs, most_outputs, most_randoms}
+use Rattle.gadget_text.specs.Errors.{refuse, ◌>>=◌, ◌>>◌}
+use Rattle.gadget_headers.specs.Headers.{Listed, SoFar, no_headers, Preamble, number_of, header_of, header_words, some_words, listed, with_shares, with_header, at_line, end_headers, headers_from, preamble_of}
 use Rattle.gadget_headers.specs.Limits.{KeepsLimits}
 use Rattle.gadget_tree.proofs.Decimals.{number_of-decimal, is_number-decimal}
 use Rattle.gadget_tree.proofs.CanonicalLines.{Script, scripted_from}
@@ -59,17 +60,17 @@ StartsBody [] = Unit {0}
 StartsBody (line ∷ lines) = header_of line.lexemes ≡ None
 
 -- no offence stands
-pub passes : {A : Type 0} (stands : Bool) (error : FileError) (otherwise : Result A FileError) → stands ≡ false → unless stands error otherwise ≡ otherwise
-passes stands error otherwise e = ap (λ (t : Bool). cond t (Err error) otherwise) e
+pub passes : {A : Type 0} (stands : Bool) (error : FileError) (next : Result A FileError) → stands ≡ false → (refuse stands error >> next) ≡ next
+passes stands error next e = ap (λ (t : Bool). refuse t error >> next) e
 
-shares_said : (n : ℕ) → 1 ≤ n → n ≤ 16 → with_shares 1 no_headers (decimal n) ≡ Ok (record no_headers { shares = Some n })
+shares_said : (n : ℕ) → 1 ≤ n → n ≤ most_shares → with_shares 1 no_headers (decimal n) ≡ Ok (record no_headers { shares = Some n })
 shares_said n l m =
     let size : n < 2 ^ 64 = omega arith in
     let number = number_of-decimal n size in
     let some : number_of (decimal n) == 0 ≡ false = ne_eqb (number_of (decimal n)) 0 (λ e. omega (arith, number)) in
-    let few : nat_lt 16 (number_of (decimal n)) ≡ false = le-ltb 16 (number_of (decimal n)) (omega (arith, number)) in
+    let few : nat_lt most_shares (number_of (decimal n)) ≡ false = le-ltb most_shares (number_of (decimal n)) (omega (arith, number)) in
     passes (not (is_number (decimal n)) || number_of (decimal n) == 0) (BadNumber 1) _ (or_from _ _ (not_from_true (is_number (decimal n)) (is_number-decimal n size)) some)
-    ∙ passes (nat_lt 16 (number_of (decimal n))) (TooMany what.Shares) _ few
+    ∙ passes (nat_lt most_shares (number_of (decimal n))) (TooMany what.Shares) _ few
     ∙ ap (λ (z : ℕ). Ok (record no_headers { shares = Some z })) number
 
 listed_said : (line most : ℕ) (things : What) (words : List (List ℕ)) → All (λ w. IsTrue (is_stem w)) words → length words ≤ most →
@@ -78,29 +79,29 @@ listed_said line most things words h l =
     passes (not (list_all is_stem words)) (BadName line) _ (not_from_true (list_all is_stem words) (list_all-from_AllPass is_stem words h))
     ∙ passes (nat_lt most (length words)) (TooMany things) _ (le-ltb most (length words) l)
 
-some_said : {A : Type 0} (line : ℕ) (words : List (List ℕ)) (go : Result A FileError) → 1 ≤ length words → some_words line words go ≡ go
-some_said line [] go l = absurd (omega arith)
-some_said line (w ∷ words) go l = refl
+some_said : {A : Type 0} (line : ℕ) (words : List (List ℕ)) (next : Result A FileError) → 1 ≤ length words → (some_words line words >> next) ≡ next
+some_said line [] next l = absurd (omega arith)
+some_said line (w ∷ words) next l = refl
 
-inputs_said : (h : SoFar) (words : List (List ℕ)) → h.inputs ≡ None → 1 ≤ length words → length words ≤ 4 → All (λ w. IsTrue (is_stem w)) words →
+inputs_said : (h : SoFar) (words : List (List ℕ)) → h.inputs ≡ None → 1 ≤ length words → length words ≤ most_inputs → All (λ w. IsTrue (is_stem w)) words →
     with_header 2 h words In ≡ Ok (record h { inputs = Some (record { line = 2; stems = words }) })
 inputs_said h words e l m k =
     some_said 2 words _ l
-    ∙ ap (λ (z : Option Listed). listed 2 (is_some z) 4 what.Inputs words >>= λ s. Ok (record h { inputs = Some s })) e
-    ∙ ap (λ (z : Result Listed FileError). z >>= λ s. Ok (record h { inputs = Some s })) (listed_said 2 4 what.Inputs words k m)
+    ∙ ap (λ (z : Option Listed). listed 2 (is_some z) most_inputs what.Inputs words >>= λ s. Ok (record h { inputs = Some s })) e
+    ∙ ap (λ (z : Result Listed FileError). z >>= λ s. Ok (record h { inputs = Some s })) (listed_said 2 most_inputs what.Inputs words k m)
 
-randoms_said : (h : SoFar) (words : List (List ℕ)) → h.randoms ≡ None → length words ≤ 128 → All (λ w. IsTrue (is_stem w)) words →
+randoms_said : (h : SoFar) (words : List (List ℕ)) → h.randoms ≡ None → length words ≤ most_randoms → All (λ w. IsTrue (is_stem w)) words →
     with_header 3 h words Randoms ≡ Ok (record h { randoms = Some (record { line = 3; stems = words }) })
 randoms_said h words e m k =
-    ap (λ (z : Option Listed). listed 3 (is_some z) 128 what.Randoms words >>= λ s. Ok (record h { randoms = Some s })) e
-    ∙ ap (λ (z : Result Listed FileError). z >>= λ s. Ok (record h { randoms = Some s })) (listed_said 3 128 what.Randoms words k m)
+    ap (λ (z : Option Listed). listed 3 (is_some z) most_randoms what.Randoms words >>= λ s. Ok (record h { randoms = Some s })) e
+    ∙ ap (λ (z : Result Listed FileError). z >>= λ s. Ok (record h { randoms = Some s })) (listed_said 3 most_randoms what.Randoms words k m)
 
-outputs_said : (line : ℕ) (h : SoFar) (words : List (List ℕ)) → h.outputs ≡ None → 1 ≤ length words → length words ≤ 2 → All (λ w. IsTrue (is_stem w)) words →
+outputs_said : (line : ℕ) (h : SoFar) (words : List (List ℕ)) → h.outputs ≡ None → 1 ≤ length words → length words ≤ most_outputs → All (λ w. IsTrue (is_stem w)) words →
     with_header line h words Out ≡ Ok (record h { outputs = Some (record { line = line; stems = words }) })
 outputs_said line h words e l m k =
     some_said line words _ l
-    ∙ ap (λ (z : Option Listed). listed line (is_some z) 2 what.Outputs words >>= λ s. Ok (record h { outputs = Some s })) e
-    ∙ ap (λ (z : Result Listed FileError). z >>= λ s. Ok (record h { outputs = Some s })) (listed_said line 2 what.Outputs words k m)
+    ∙ ap (λ (z : Option Listed). listed line (is_some z) most_outputs what.Outputs words >>= λ s. Ok (record h { outputs = Some s })) e
+    ∙ ap (λ (z : Result Listed FileError). z >>= λ s. Ok (record h { outputs = Some s })) (listed_said line most_outputs what.Outputs words k m)
 
 texts : (ws : List (List ℕ)) → map (λ (lexeme : Lexeme). lexeme.text) (map word_lexeme ws) ≡ ws
 texts [] = refl
@@ -117,7 +118,7 @@ header_step line h now header ws lines e =
 headers_end : (h : SoFar) (lines : List TokenLine) → StartsBody lines → headers_from h lines ≡ end_headers h lines
 headers_end h [] e = refl
 headers_end h (line ∷ lines) e =
-    ap (λ (z : Option Header). at_line line.number h (words_of line.lexemes) (λ s. headers_from s lines) (end_headers h (line ∷ lines)) z) e
+    ap (λ (z : Option Header). at_line line.number h (header_words line.lexemes) (λ s. headers_from s lines) (end_headers h (line ∷ lines)) z) e
 
 -- the lines behind the line `#IN`
 abbrev later : List (List ℕ) → List (List ℕ) → List TokenLine → List TokenLine

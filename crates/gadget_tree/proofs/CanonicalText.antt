@@ -1,6 +1,6 @@
 -- The canonical text as lines with their tokens.
 use Rattle.std.proofs.Common.{◌≡◌, ◌+◌, ◌*◌, ℕ, IsTrue, List, [], ◌∷◌, ◌++◌, length, map, flat_map, Option, None, Ok, refl, sym, ap, ◌∙◌, arith, append-nil}
-use Rattle.std.specs.Prelude.{codes, decimal}
+use Rattle.std.specs.Prelude.{codes, decimal, option_map}
 use Rattle.std.specs.List.{All, AllByRecursion, join_with_byte, range_with_len}
 use Rattle.std.proofs.lemmas.List.{map-append}
 use Rattle.std.proofs.lemmas.List.Concat.{flat_map-append}
@@ -14,13 +14,14 @@ use Rattle.gadget_text.specs.Names.{is_stem}
 use Rattle.gadget_text.specs.Tokens.{TokenLine, token_lines}
 use Rattle.gadget_text.proofs.WordBytes.{IsWord, IsNamed-from_stem, IsWord-from_named, each_weaker, each_append}
 use Rattle.gadget_text.proofs.SpacedWords.{HasLexemes-header}
-use Rattle.gadget_headers.specs.Errors.{◌>>=◌}
+use Rattle.gadget_text.specs.declared.file_error.FileError.TheVariants.{NotText}
+use Rattle.gadget_text.specs.Errors.{refuse_found, ◌>>=◌, ◌>>◌}
 use Rattle.gadget_headers.specs.Headers.{Preamble, preamble_of}
 use Rattle.gadget_headers.specs.Limits.{KeepsLimits}
 use Rattle.gadget_tree.specs.Variables.{share_name, names_of, shares_of_input, share_variables, random_variables}
-use Rattle.gadget_tree.specs.File.{text_of, file_headers}
+use Rattle.gadget_tree.specs.File.{file_headers}
 use Rattle.gadget_tree.specs.Gadgets.{IsOperationNode, IsOperation, IsLaidOut}
-use Rattle.gadget_tree.specs.Canonical.{random_name, random_names, randoms_line, operation_line, canonical_lines, canonical_text}
+use Rattle.gadget_tree.specs.Canonical.{random_name, randoms_among, randoms_line, operation_line, canonical_lines, canonical_text}
 use Rattle.gadget_tree.proofs.Decimals.{IsWord-decimal}
 use Rattle.gadget_tree.proofs.CanonicalLines.{Script, IsRead, text_from, scripted_from, all_text, text_tokens}
 use Rattle.gadget_tree.proofs.CanonicalHeaders.{header_script, header_scripts, canonical_preamble, StartsBody, preamble_said}
@@ -105,7 +106,7 @@ lines_scripted : (g : Circuit) (input_line random_line : ℕ) (randoms : List (L
     canonical_lines g ≡ map (λ (l : Script). l.words) (gadget_scripts g randoms operations)
 lines_scripted g input_line random_line randoms operations h =
     let each = recursion_from_All IsOperation operations h.all_operations in
-    let names : random_names g ≡ randoms =
+    let names : randoms_among g.variables ≡ randoms =
     ap (given random_name) h.variables
     ∙ all_give random_name (λ x i. refl) input_line g.shares g.inputs (random_variables random_line 0 randoms) operations randoms [] (random_named random_line 0 randoms) (no_randoms operations each)
     ∙ append-nil randoms in
@@ -113,7 +114,7 @@ lines_scripted g input_line random_line randoms operations h =
     ap (given (operation_line g.variables)) h.variables
     ∙ all_give (operation_line g.variables) (λ x i. refl) input_line g.shares g.inputs (random_variables random_line 0 randoms) operations [] _
     (random_lineless g.variables random_line 0 randoms) (operation_lines g.variables operations each) in
-    ap (λ (z : List (List (List ℕ))). (codes "#SHARES" ∷ decimal g.shares ∷ []) ∷ (codes "#IN" ∷ g.inputs) ∷ randoms_line (random_names g) ++ (codes "#OUT" ∷ g.outputs) ∷ [] ++ z) operations_lines
+    ap (λ (z : List (List (List ℕ))). (codes "#SHARES" ∷ decimal g.shares ∷ []) ∷ (codes "#IN" ∷ g.inputs) ∷ randoms_line (randoms_among g.variables) ++ (codes "#OUT" ∷ g.outputs) ∷ [] ++ z) operations_lines
     ∙ ap (λ (z : List (List ℕ)). (codes "#SHARES" ∷ decimal g.shares ∷ []) ∷ (codes "#IN" ∷ g.inputs) ∷ randoms_line z ++ (codes "#OUT" ∷ g.outputs) ∷ []
     ++ map (λ (l : Script). l.words) (map (operation_script (names_of g.variables)) operations)) names
     ∙ ap (λ (z : List (List (List ℕ))). z ++ map (λ (l : Script). l.words) (map (operation_script (names_of g.variables)) operations)) (header_lines g.shares g.inputs randoms g.outputs)
@@ -165,7 +166,7 @@ headers_read n inputs (name ∷ names) outputs lines h = (
 )
 
 no_offence : (bytes : List ℕ) (h : Preamble) → first_not_text 1 (lines_of bytes) ≡ None → preamble_of (token_lines bytes) ≡ Ok h → file_headers bytes ≡ Ok h
-no_offence bytes h e f = ap (λ (z : Option ℕ). text_of bytes z >>= preamble_of) e ∙ f
+no_offence bytes h e f = ap (λ (z : Option ℕ). (refuse_found (option_map NotText z) >> Ok (token_lines bytes)) >>= preamble_of) e ∙ f
 
 -- what the headers of the canonical text say
 pub text_headers : (g : Circuit) (input_line random_line : ℕ) (randoms : List (List ℕ)) (operations : List Variable) → IsLaidOut g input_line random_line randoms operations →

@@ -8,11 +8,11 @@ use Rattle.gadget_model.specs.Circuit.{Node, share, random, Variable, Circuit, n
 use Rattle.gadget_text.specs.Names.{is_stem}
 use Rattle.gadget_text.specs.Tokens.{TokenLine}
 use Rattle.gadget_text.proofs.WordBytes.{IsNamed, IsNamed-from_stem, IsNamed-from_name, each_append}
-use Rattle.gadget_headers.specs.declared.file_error.FileError.{FileError}
-use Rattle.gadget_headers.specs.declared.file_error.FileError.TheVariants.{NameTwice}
-use Rattle.gadget_headers.specs.Errors.{unless, ◌>>=◌}
+use Rattle.gadget_text.specs.declared.file_error.FileError.{FileError}
+use Rattle.gadget_text.specs.declared.file_error.FileError.TheVariants.{NameTwice}
+use Rattle.gadget_text.specs.Errors.{refuse, ◌>>=◌, ◌>>◌}
 use Rattle.gadget_tree.specs.Variables.{share_name, share_names, names_of, are_distinct, AreDistinct, shares_of_input, share_variables, random_variables, listed_randoms, header_variables}
-use Rattle.gadget_tree.specs.File.{named_variables}
+use Rattle.gadget_tree.specs.File.{distinct_shares, distinct_randoms, named_variables}
 use Rattle.gadget_tree.specs.Gadgets.{IsOperation, IsGadget, IsLaidOut}
 use Rattle.gadget_tree.proofs.Decimals.{is_stem-share_name}
 use Rattle.list_laws.proofs.Members.{AllPairs-append_left}
@@ -146,20 +146,24 @@ pub all_nodes : (g : Circuit) (input_line random_line : ℕ) (randoms : List (Li
     nodes g ≡ nodes_of (header_variables (canonical_preamble g.shares g.inputs randoms g.outputs lines)) ++ nodes_of operations
 all_nodes g input_line random_line randoms operations lines h = looks_alike (λ x node. node) g input_line random_line randoms operations lines h
 
-distinct_passes : {A : Type 0} (names : List (List ℕ)) (error : FileError) (otherwise : Result A FileError) → AreDistinct names → unless (not (are_distinct names)) error otherwise ≡ otherwise
-distinct_passes names error otherwise h = passes (not (are_distinct names)) error otherwise (not_from_true (are_distinct names) (test_from_distinct names h))
+-- names and more that differ are no offence
+distinct_passes : (names more : List (List ℕ)) (line : ℕ) → AreDistinct (names ++ more) → (refuse (not (are_distinct (names ++ more))) (NameTwice line) >> Ok (names ++ more)) ≡ Ok (names ++ more)
+distinct_passes names more line h = passes (not (are_distinct (names ++ more))) (NameTwice line) (Ok (names ++ more)) (not_from_true (are_distinct (names ++ more)) (test_from_distinct (names ++ more) h))
 
 -- the headers name variables, where no name stands twice
 pub variables_named : (n : ℕ) (inputs randoms outputs : List (List ℕ)) (lines : List TokenLine) → AreDistinct (share_names n inputs ++ randoms ++ share_names n outputs) →
     named_variables (canonical_preamble n inputs randoms outputs lines) ≡ Ok (header_variables (canonical_preamble n inputs randoms outputs lines))
 variables_named n inputs [] outputs lines h =
+    let start : Result (List Variable) FileError = Ok (header_variables (canonical_preamble n inputs [] outputs lines)) in
+    let last = λ (names : List (List ℕ)). distinct_shares names n (record { line = 3; stems = outputs }) >>= λ _. start in
     let all : AreDistinct (share_names n inputs ++ share_names n outputs) = subst (λ (z : List (List ℕ)). AreDistinct (z ++ share_names n outputs)) (append-nil (share_names n inputs)) h in
-    distinct_passes (share_names n inputs) (NameTwice 2) _ (AllPairs-append_left (λ a b. a ≢ b) (share_names n inputs) (share_names n outputs) all)
-    ∙ distinct_passes (share_names n inputs ++ share_names n outputs) (NameTwice 3) _ all
+    ap (λ (z : Result (List (List ℕ)) FileError). z >>= last) (distinct_passes [] (share_names n inputs) 2 (AllPairs-append_left (λ a b. a ≢ b) (share_names n inputs) (share_names n outputs) all))
+    ∙ ap (λ (z : Result (List (List ℕ)) FileError). z >>= λ _. start) (distinct_passes (share_names n inputs) (share_names n outputs) 3 all)
 variables_named n inputs (name ∷ names) outputs lines h =
-    let start = header_variables (canonical_preamble n inputs (name ∷ names) outputs lines) in
+    let start : Result (List Variable) FileError = Ok (header_variables (canonical_preamble n inputs (name ∷ names) outputs lines)) in
+    let last = λ (all : List (List ℕ)). distinct_shares all n (record { line = 4; stems = outputs }) >>= λ _. start in
+    let later = λ (all : List (List ℕ)). distinct_randoms all (Some (record { line = 3; stems = name ∷ names })) >>= last in
     let front = AllPairs-append_left (λ a b. a ≢ b) (share_names n inputs ++ name ∷ names) (share_names n outputs) h in
-    distinct_passes (share_names n inputs) (NameTwice 2) _ (AllPairs-append_left (λ a b. a ≢ b) (share_names n inputs) (name ∷ names) front)
-    ∙ ap (λ (z : Result (List (List ℕ)) FileError). z >>= λ all. unless (not (are_distinct (all ++ share_names n outputs))) (NameTwice 4) (Ok start))
-    (distinct_passes (share_names n inputs ++ name ∷ names) (NameTwice 3) (Ok (share_names n inputs ++ name ∷ names)) front)
-    ∙ distinct_passes (share_names n inputs ++ name ∷ names ++ share_names n outputs) (NameTwice 4) _ h
+    ap (λ (z : Result (List (List ℕ)) FileError). z >>= later) (distinct_passes [] (share_names n inputs) 2 (AllPairs-append_left (λ a b. a ≢ b) (share_names n inputs) (name ∷ names) front))
+    ∙ ap (λ (z : Result (List (List ℕ)) FileError). z >>= last) (distinct_passes (share_names n inputs) (name ∷ names) 3 front)
+    ∙ ap (λ (z : Result (List (List ℕ)) FileError). z >>= λ _. start) (distinct_passes (share_names n inputs ++ name ∷ names) (share_names n outputs) 4 h)

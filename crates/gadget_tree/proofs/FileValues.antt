@@ -4,7 +4,7 @@ use Rattle.std.specs.Prelude.{All, Result}
 use Rattle.std.specs.List.{AllZip}
 use Rattle.gadget_model.specs.Circuit.{Variable, Circuit}
 use Rattle.gadget_text.specs.Tokens.{TokenLine, token_lines}
-use Rattle.gadget_headers.specs.declared.file_error.FileError.{FileError}
+use Rattle.gadget_text.specs.declared.file_error.FileError.{FileError}
 use Rattle.gadget_headers.specs.Headers.{Preamble, preamble_of}
 use Rattle.gadget_headers.specs.Limits.{stems_of}
 use Rattle.gadget_grammar.specs.Grammar.{Tree, IsAssignment}

@@ -1,6 +1,6 @@
 -- What follows a result.
 use Rattle.std.proofs.Common.{◌≡◌, Result, Ok, Err, sym, ◌∙◌, refl, subst}
-use Rattle.gadget_headers.specs.declared.file_error.FileError.{FileError}
+use Rattle.gadget_text.specs.declared.file_error.FileError.{FileError}
 use Rattle.gadget_tree.specs.File.{Follows}
 
 -- where at most one thing is said of each value, at most one follows a result

@@ -1,5 +1,5 @@
 -- What a line says, by what its assignment makes.
-use Rattle.std.proofs.Common.{◌≡◌, ◌<◌, ◌≤◌, ◌+◌, ℕ, Bool, true, false, not, List, [], ◌∷◌, ◌++◌, length, map, refl, sym, ap, subst, ◌∙◌, ltb, inr}
+use Rattle.std.proofs.Common.{◌≡◌, ◌<◌, ◌≤◌, ◌+◌, ℕ, Bool, true, false, not, List, [], ◌∷◌, ◌++◌, length, map, refl, sym, ap, subst, ◌∙◌, ltb}
 use Rattle.std.proofs.lemmas.Bool.{lt-ltb, le-ltb}
 use Rattle.std.specs.Prelude.{Option, Some, None, is_some, Result, Ok, Err, All}
 use Rattle.std.specs.List.{list_any, list_all}
@@ -8,19 +8,19 @@ use Rattle.gadget_text.specs.declared.token.Header.{Header}
 use Rattle.gadget_text.specs.declared.token.Token.{Token}
 use Rattle.gadget_text.specs.Tokens.{TokenLine}
 use Rattle.gadget_text.specs.Places.{lines_in}
-use Rattle.gadget_headers.specs.declared.file_error.FileError.{FileError}
-use Rattle.gadget_headers.specs.declared.file_error.FileError.TheVariants.{Syntax, NameTwice, Unknown, TooMany}
-use Rattle.gadget_headers.specs.declared.file_error.What.TheVariants.{Variables}
-use Rattle.gadget_headers.specs.Errors.{unless}
-use Rattle.gadget_headers.specs.Headers.{header_of}
-use Rattle.gadget_grammar.specs.Grammar.{Tree, IsAssignment}
-use Rattle.gadget_grammar.specs.Nesting.{IsTooDeep}
+use Rattle.gadget_text.specs.declared.file_error.FileError.{FileError}
+use Rattle.gadget_text.specs.declared.file_error.FileError.TheVariants.{Syntax, NameTwice, Unknown, TooMany}
+use Rattle.gadget_text.specs.declared.file_error.What.TheVariants.{Variables}
+use Rattle.gadget_limits.specs.Limits.{most_variables}
+use Rattle.gadget_text.specs.Errors.{refuse, ◌>>=◌, ◌>>◌}
+use Rattle.gadget_grammar.specs.Grammar.{Tree}
+use Rattle.gadget_grammar.specs.Assignments.{Assigned, AssignedSteps, in_steps, StepsSaid}
 use Rattle.gadget_grammar.specs.Steps.{NamedStep, postfix}
 use Rattle.gadget_tree.specs.declared.var.VarKind.{VarKind}
 use Rattle.gadget_tree.specs.Seen.{node_of}
 use Rattle.gadget_tree.specs.Variables.{names_of, is_among, place_of}
 use Rattle.gadget_tree.specs.Operations.{line_parts, leaves, made_variables}
-use Rattle.gadget_tree.specs.File.{with_line, AssignmentSays, LineSays, LinesSay}
+use Rattle.gadget_tree.specs.File.{with_line, with_assigned, SaysByHeader, LineSays, LinesSay}
 use Rattle.gadget_tree.specs.Gadgets.{IsOperationNode}
 use Rattle.gadget_tree.specs.Made.{names_made, count_made, is_known, nodes_made, with_steps}
 use Rattle.gadget_tree.proofs.StepsMake.{count-postfix, known-postfix, nodes-postfix, kinds-count, kinds-operations}
@@ -28,10 +28,10 @@ use Rattle.gadget_tree.proofs.StepsMake.{count-postfix, known-postfix, nodes-pos
 -- what a line says that makes so many variables, where the names in it are known or not, and these are the nodes
 abbrev answer : ℕ → List Variable → List ℕ → ℕ → Bool → List Node → Result (List Variable) FileError
 answer line earlier x count known nodes =
-    unless (list_any (is_among (names_of earlier)) (names_made x count)) (NameTwice line)
-    (unless (not known) (Unknown line)
-    (unless (ltb 511 (length earlier + count)) (TooMany Variables)
-    (Ok (earlier ++ made_variables line (names_made x count) nodes))))
+    refuse (list_any (is_among (names_of earlier)) (names_made x count)) (NameTwice line)
+    >> (refuse (not known) (Unknown line)
+    >> (refuse (ltb most_variables (length earlier + count)) (TooMany Variables)
+    >> Ok (earlier ++ made_variables line (names_made x count) nodes)))
 
 -- the steps of a tree say what the tree says
 steps-postfix : (line : ℕ) (earlier : List Variable) (x : List ℕ) (t : Tree) → with_steps line earlier x (postfix t) ≡ with_line line earlier x t
@@ -55,36 +55,53 @@ says-unknown line earlier x steps e f = rw (e, f) refl
 
 -- there would be too many variables
 pub says-many : (line : ℕ) (earlier : List Variable) (x : List ℕ) (steps : List NamedStep) → list_any (is_among (names_of earlier)) (names_made x (count_made steps)) ≡ false →
-    list_all (is_known (names_of earlier)) steps ≡ true → 511 < length earlier + count_made steps → with_steps line earlier x steps ≡ Err (TooMany Variables)
-says-many line earlier x steps e f l = rw (e, f, lt-ltb 511 (length earlier + count_made steps) l) refl
+    list_all (is_known (names_of earlier)) steps ≡ true → most_variables < length earlier + count_made steps → with_steps line earlier x steps ≡ Err (TooMany Variables)
+says-many line earlier x steps e f l = rw (e, f, lt-ltb most_variables (length earlier + count_made steps) l) refl
 
 -- the variables are made
 pub says-made : (line : ℕ) (earlier now : List Variable) (x : List ℕ) (steps : List NamedStep) → list_any (is_among (names_of earlier)) (names_made x (count_made steps)) ≡ false →
-    list_all (is_known (names_of earlier)) steps ≡ true → length earlier + count_made steps ≤ 511 →
+    list_all (is_known (names_of earlier)) steps ≡ true → length earlier + count_made steps ≤ most_variables →
     now ≡ earlier ++ made_variables line (names_made x (count_made steps)) (nodes_made (place_of (names_of earlier)) (length earlier) steps) → with_steps line earlier x steps ≡ Ok now
-says-made line earlier now x steps e f l g = rw (e, f, le-ltb 511 (length earlier + count_made steps) l) (ap Ok (sym g))
+says-made line earlier now x steps e f l g = rw (e, f, le-ltb most_variables (length earlier + count_made steps) l) (ap Ok (sym g))
 
 -- a header line is out of place
-pub header-says : (earlier : List Variable) (line : TokenLine) (o : Option Header) → is_some o ≡ true → LineSays earlier line o (Err (Syntax line.number))
+pub header-says : (earlier : List Variable) (line : TokenLine) (o : Option Header) → is_some o ≡ true → SaysByHeader earlier line o (Err (Syntax line.number))
 header-says earlier line (Some header) e = refl
 header-says earlier line None e = absurd cc
 
--- any other line says what an assignment line says
-pub line-says : (earlier : List Variable) (line : TokenLine) (o : Option Header) (r : Result (List Variable) FileError) → is_some o ≡ false → AssignmentSays earlier line r → LineSays earlier line o r
-line-says earlier line (Some header) r e h = absurd cc
-line-says earlier line None r e h = h
+-- what a line says is what follows the same result
+said_by_cases : (line : TokenLine) (earlier : List Variable) (said : Result Assigned FileError) (e : FileError) → (let r : Result AssignedSteps FileError = Err e in r) ≡ (said >>= λ a. Ok (in_steps a)) →
+    (let r : Result (List Variable) FileError = Err e in r) ≡ (said >>= with_assigned line.number earlier)
+said_by_cases line earlier (Ok a) e f = absurd cc
+said_by_cases line earlier (Err error) e f = let g : e ≡ error = cc in ap Err g
+
+-- a line that is no assignment
+pub refused-says : (earlier : List Variable) (line : TokenLine) (o : Option Header) (e : FileError) → is_some o ≡ false → StepsSaid line (Err e) → SaysByHeader earlier line o (Err e)
+refused-says earlier line (Some header) e f h = absurd cc
+refused-says earlier line None e f h = (h.0, h.1, said_by_cases line earlier h.0 e h.2)
+
+-- the tree of what a line assigns
+assigned_by_cases : (said : Result Assigned FileError) (a : AssignedSteps) → Ok a ≡ (said >>= λ b. Ok (in_steps b)) → (b : Assigned) × (said ≡ Ok b) × (a ≡ in_steps b)
+assigned_by_cases (Ok b) a e = (b, refl, cc)
+assigned_by_cases (Err error) a e = absurd cc
+
+-- the steps of a line that assigns are those of a tree
+pub steps-tree : (line : TokenLine) (a : AssignedSteps) → StepsSaid line (Ok a) → (tree : Tree) × (a.steps ≡ postfix tree)
+steps-tree line a h = let b = assigned_by_cases h.0 a h.2 in (b.0.tree, ap (λ (z : AssignedSteps). z.steps) b.2)
 
 -- a line that assigns a tree
-pub assignment-says : (earlier : List Variable) (line : TokenLine) (o : Option Header) (r : Result (List Variable) FileError) (x y : List ℕ) (steps items : List NamedStep) → is_some o ≡ false → y ≡ x → items ≡ steps →
-    (IsTooDeep line.lexemes → ⊥) × (tree : Tree) × IsAssignment line.lexemes x tree × (steps ≡ postfix tree) → with_steps line.number earlier y items ≡ r → LineSays earlier line o r
-assignment-says earlier line o r x y steps items e named same h f =
-    line-says earlier line o r e (inr (inr (
+pub assigned-says : (earlier : List Variable) (line : TokenLine) (o : Option Header) (a : AssignedSteps) (x : List ℕ) (steps : List NamedStep) → is_some o ≡ false → StepsSaid line (Ok a) → x ≡ a.name → steps ≡ a.steps →
+    (r : Result (List Variable) FileError) → with_steps line.number earlier x steps ≡ r → SaysByHeader earlier line o r
+assigned-says earlier line (Some header) a x steps e h named same r f = absurd cc
+assigned-says earlier line None a x steps e h named same r f =
+    let b = assigned_by_cases h.0 a h.2 in
+    let name : x ≡ b.0.name = named ∙ ap (λ (z : AssignedSteps). z.name) b.2 in
+    let tree : steps ≡ postfix b.0.tree = same ∙ ap (λ (z : AssignedSteps). z.steps) b.2 in (
       h.0,
-      x,
       h.1,
-      h.2,
-      sym f ∙ ap (λ (z : List ℕ). with_steps line.number earlier z items) named ∙ ap (with_steps line.number earlier x) (same ∙ h.3) ∙ steps-postfix line.number earlier x h.1,
-    )))
+      sym f ∙ ap (λ (z : List ℕ). with_steps line.number earlier z steps) name ∙ ap (with_steps line.number earlier b.0.name) tree ∙ steps-postfix line.number earlier b.0.name b.0.tree
+          ∙ ap (λ (z : Result Assigned FileError). z >>= with_assigned line.number earlier) (sym b.1),
+    )
 
 -- what the kinds of a line are, where the code keeps them as a slice
 module _ (vars : List Variable) (steps : List NamedStep) (kinds items : List VarKind) (t : Tree) (is_tree : steps ≡ postfix t) (same : kinds ≡ items)
@@ -113,12 +130,12 @@ module _ (vars : List Variable) (steps : List NamedStep) (kinds items : List Var
 
 -- the lines of which the first says that the variables are these now
 pub lines-next : (earlier now : List Variable) (line : TokenLine) (lines rest : List TokenLine) (r : Result (List Variable) FileError) → lines ≡ line ∷ rest →
-    LineSays earlier line (header_of line.lexemes) (Ok now) → LinesSay now rest r → LinesSay earlier lines r
+    LineSays earlier line (Ok now) → LinesSay now rest r → LinesSay earlier lines r
 lines-next earlier now line lines rest r e h k = subst (λ (ls : List TokenLine). LinesSay earlier ls r) (sym e) (Ok now, h, k)
 
 -- the lines of which the first offends
 pub lines-refused : (earlier : List Variable) (line : TokenLine) (lines rest : List TokenLine) (error : FileError) → lines ≡ line ∷ rest →
-    LineSays earlier line (header_of line.lexemes) (Err error) → LinesSay earlier lines (Err error)
+    LineSays earlier line (Err error) → LinesSay earlier lines (Err error)
 lines-refused earlier line lines rest error e h = subst (λ (ls : List TokenLine). LinesSay earlier ls (Err error)) (sym e) (Err error, h, refl)
 
 -- no lines

@@ -8,8 +8,8 @@ use Rattle.gadget_text.specs.declared.token.TokenKind.TheVariants.{Head, Word, E
 use Rattle.gadget_text.specs.Tokens.{Lexeme, TokenLine}
 use Rattle.list_laws.proofs.Members.{Contains-cons_cases}
 use Rattle.list_laws.proofs.Once.{Contains-nil}
-use Rattle.gadget_headers.specs.Headers.{Listed, SoFar, no_headers, Preamble, header_of_kind, header_of, words_of, with_header, ended, end_headers, at_line, headers_from, preamble_of}
-use Rattle.gadget_headers.proofs.Results.{then_gives, at_ok}
+use Rattle.gadget_headers.specs.Headers.{Listed, SoFar, no_headers, Preamble, header_of_kind, header_of, header_words, with_header, end_headers, at_line, headers_from, preamble_of}
+use Rattle.gadget_text.proofs.Results.{then_gives, at_ok}
 use Rattle.gadget_grammar.specs.Symbols.{Symbol, word, symbol_of_kind}
 use Rattle.gadget_grammar.specs.Grammar.{Tree, IsAssignment}
 use Rattle.gadget_tree.specs.File.{LinesSay}
@@ -39,22 +39,23 @@ assignment_is_no_header [] name tree h = refl
 assignment_is_no_header (first ∷ others) name tree h = word_is_no_header first.kind first.text name (ap (first_or (word name)) h.spells)
 
 -- where the headers end, the lines behind them are these
-ended_lines : (n : Option ℕ) (inputs randoms outputs : Option Listed) (lines : List TokenLine) (h : Preamble) → ended n inputs randoms outputs lines ≡ Ok h → lines ≡ h.lines
-ended_lines None inputs randoms outputs lines h e = absurd cc
-ended_lines (Some n) None randoms outputs lines h e = absurd cc
-ended_lines (Some n) (Some inputs) randoms None lines h e = absurd cc
-ended_lines (Some n) (Some inputs) randoms (Some outputs) lines h e =
-    at_ok (λ p. lines ≡ p.lines) (record { shares = n; inputs = inputs; randoms = randoms; outputs = outputs; lines = lines }) h e refl
+ended_lines : (now : SoFar) (lines : List TokenLine) (h : Preamble) → end_headers now lines ≡ Ok h → lines ≡ h.lines
+ended_lines now lines h e = by_cases now.shares now.inputs now.outputs e where
+  by_cases : (n : Option ℕ) (inputs outputs : Option Listed) → end_headers (record now { shares = n; inputs = inputs; outputs = outputs }) lines ≡ Ok h → lines ≡ h.lines
+  by_cases None inputs outputs f = absurd cc
+  by_cases (Some n) None outputs f = absurd cc
+  by_cases (Some n) (Some inputs) None f = absurd cc
+  by_cases (Some n) (Some inputs) (Some outputs) f = at_ok (λ p. lines ≡ p.lines) (record { shares = n; inputs = inputs; randoms = now.randoms; outputs = outputs; lines = lines }) h f refl
 
 module _ (h : Preamble) (line : TokenLine) (no_header : header_of line.lexemes ≡ None) where
   -- the first line is behind the headers where it is none, and those behind it where they are
   line_behind : (first : TokenLine) (lines : List TokenLine) (now : SoFar) (o : Option Header) → header_of first.lexemes ≡ o → Contains (first ∷ lines) line →
       ((next : SoFar) → headers_from next lines ≡ Ok h → Contains lines line → Contains h.lines line) →
-      at_line first.number now (words_of first.lexemes) (λ next. headers_from next lines) (end_headers now (first ∷ lines)) o ≡ Ok h → Contains h.lines line
+      at_line first.number now (header_words first.lexemes) (λ next. headers_from next lines) (end_headers now (first ∷ lines)) o ≡ Ok h → Contains h.lines line
   line_behind first lines now None is stands each e =
-      subst (λ (ls : List TokenLine). Contains ls line) (ended_lines now.shares now.inputs now.randoms now.outputs (first ∷ lines) h e) stands
+      subst (λ (ls : List TokenLine). Contains ls line) (ended_lines now (first ∷ lines) h e) stands
   line_behind first lines now (Some header) is stands each e =
-      let n = then_gives (with_header first.number now (words_of first.lexemes) header) (λ next. headers_from next lines) h e in
+      let n = then_gives (with_header first.number now (header_words first.lexemes) header) (λ next. headers_from next lines) h e in
       elim (Contains-cons_cases first lines line stands) [
         | inl same ↦ let f = ap (λ (l : TokenLine). header_of l.lexemes) same in absurd cc
         | inr k ↦ each n.0 n.2 k

@@ -7,60 +7,67 @@ use Rattle.std.proofs.lemmas.List.FromFn.{length-map-range_with_len}
 use Rattle.gadget_model.specs.Circuit.{Node, Variable}
 use Rattle.gadget_text.specs.declared.token.Header.{Header}
 use Rattle.gadget_text.specs.Tokens.{TokenLine}
-use Rattle.gadget_headers.specs.declared.file_error.FileError.{FileError}
-use Rattle.gadget_headers.specs.declared.file_error.FileError.TheVariants.{NameTwice, Unknown, TooMany}
-use Rattle.gadget_headers.specs.declared.file_error.What.TheVariants.{Variables}
-use Rattle.gadget_headers.specs.Errors.{unless}
+use Rattle.gadget_text.specs.declared.file_error.FileError.{FileError}
+use Rattle.gadget_text.specs.declared.file_error.FileError.TheVariants.{NameTwice, Unknown, TooMany}
+use Rattle.gadget_text.specs.declared.file_error.What.TheVariants.{Variables}
+use Rattle.gadget_limits.specs.Limits.{most_variables}
+use Rattle.gadget_text.specs.Errors.{refuse, ◌>>=◌, ◌>>◌}
+use Rattle.gadget_grammar.specs.Assignments.{Assigned, AssignmentSays}
 use Rattle.gadget_headers.specs.Headers.{header_of}
-use Rattle.gadget_headers.proofs.Results.{unless_gives}
+use Rattle.gadget_text.proofs.Results.{refuse_gives}
 use Rattle.gadget_grammar.specs.Grammar.{Tree, IsAssignment}
 use Rattle.gadget_tree.specs.Variables.{names_of, is_among, place_of}
 use Rattle.gadget_tree.specs.Operations.{leaves, line_parts, inner_name, line_names, line_nodes, made_variables}
-use Rattle.gadget_tree.specs.File.{with_line, LineSays, LinesSay}
+use Rattle.gadget_tree.specs.File.{with_line, with_assigned, SaysByHeader, LineSays, LinesSay}
 use Rattle.gadget_tree.proofs.Follows.{follows_ok}
 use Rattle.gadget_tree.proofs.Names.{length-names_of}
 use Rattle.gadget_tree.proofs.Nodes.{length-line_nodes, some_line_parts}
 use Rattle.gadget_tree.proofs.HeaderVariables.{nodes_of}
 
--- A line that is read assigns a tree to a name. None of its names stood before, each name in its tree did, there are at most 511
--- variables, and those that it makes stand behind the earlier ones.
+-- A line that is read assigns a tree to a name. None of its names stood before, each name in its tree did, there are not too many
+-- variables, and those that it makes stand after the earlier ones.
 pub record IsLine (earlier : List Variable) (line : TokenLine) (name : List ℕ) (tree : Tree) (now : List Variable) : Type 0 where
   pub assigns : IsAssignment line.lexemes name tree
   pub new : list_any (is_among (names_of earlier)) (line_names name tree) ≡ false
   pub known : list_all (is_among (names_of earlier)) (leaves tree) ≡ true
-  pub few : length earlier + length (line_parts tree) ≤ 511
+  pub few : length earlier + length (line_parts tree) ≤ most_variables
   pub makes : now ≡ earlier ++ made_variables line.number (line_names name tree) (line_nodes (place_of (names_of earlier)) (length earlier) tree)
 
 line_made : (earlier : List Variable) (line : TokenLine) (name : List ℕ) (tree : Tree) (now : List Variable) → IsAssignment line.lexemes name tree → with_line line.number earlier name tree ≡ Ok now →
     IsLine earlier line name tree now
 line_made earlier line name tree now assigns e =
     let ok : Result (List Variable) FileError = Ok (earlier ++ made_variables line.number (line_names name tree) (line_nodes (place_of (names_of earlier)) (length earlier) tree)) in
-    let room = unless (nat_lt 511 (length earlier + length (line_parts tree))) (TooMany Variables) ok in
-    let known = unless (not (list_all (is_among (names_of earlier)) (leaves tree))) (Unknown line.number) room in
-    let a = unless_gives (list_any (is_among (names_of earlier)) (line_names name tree)) (NameTwice line.number) known now e in
-    let b = unless_gives (not (list_all (is_among (names_of earlier)) (leaves tree))) (Unknown line.number) room now a.1 in
-    let c = unless_gives (nat_lt 511 (length earlier + length (line_parts tree))) (TooMany Variables) ok now b.1 in
+    let room = refuse (nat_lt most_variables (length earlier + length (line_parts tree))) (TooMany Variables) >> ok in
+    let known = refuse (not (list_all (is_among (names_of earlier)) (leaves tree))) (Unknown line.number) >> room in
+    let a = refuse_gives (list_any (is_among (names_of earlier)) (line_names name tree)) (NameTwice line.number) known now e in
+    let b = refuse_gives (not (list_all (is_among (names_of earlier)) (leaves tree))) (Unknown line.number) room now a.1 in
+    let c = refuse_gives (nat_lt most_variables (length earlier + length (line_parts tree))) (TooMany Variables) ok now b.1 in
     record {
       assigns = assigns;
       new = a.0;
       known = not-false (list_all (is_among (names_of earlier)) (leaves tree)) b.0;
-      few = ltb-false 511 (length earlier + length (line_parts tree)) c.0;
+      few = ltb-false most_variables (length earlier + length (line_parts tree)) c.0;
       makes = let f = c.1 in cc;
     }
 
 -- so it is of each line that is read
-pub line_read : (earlier : List Variable) (line : TokenLine) (o : Option Header) (now : List Variable) → LineSays earlier line o (Ok now) → (name : List ℕ) × (tree : Tree) × IsLine earlier line name tree now
+assigned_read : (earlier : List Variable) (line : TokenLine) (now : List Variable) (said : Result Assigned FileError) → AssignmentSays line said → (said >>= with_assigned line.number earlier) ≡ Ok now →
+    (name : List ℕ) × (tree : Tree) × IsLine earlier line name tree now
+assigned_read earlier line now said (inl h) e = let f = sym (ap (λ (r : Result Assigned FileError). r >>= with_assigned line.number earlier) h.1) ∙ e in absurd cc
+assigned_read earlier line now said (inr (inl h)) e = let f = sym (ap (λ (r : Result Assigned FileError). r >>= with_assigned line.number earlier) h.2) ∙ e in absurd cc
+assigned_read earlier line now said (inr (inr h)) e =
+    (h.1.name, h.1.tree, line_made earlier line h.1.name h.1.tree now h.2 (sym (ap (λ (r : Result Assigned FileError). r >>= with_assigned line.number earlier) h.3) ∙ e))
+
+pub line_read : (earlier : List Variable) (line : TokenLine) (o : Option Header) (now : List Variable) → SaysByHeader earlier line o (Ok now) → (name : List ℕ) × (tree : Tree) × IsLine earlier line name tree now
 line_read earlier line (Some header) now h = absurd cc
-line_read earlier line None now (inl h) = let f = h.1 in absurd cc
-line_read earlier line None now (inr (inl h)) = let f = h.2 in absurd cc
-line_read earlier line None now (inr (inr h)) = (h.1, h.2, line_made earlier line h.1 h.2 now h.3 (sym h.4))
+line_read earlier line None now h = assigned_read earlier line now h.0 h.1 (sym h.2)
 
 -- the first of some lines that are read, and what the others say
 pub first_line_read : (earlier : List Variable) (line : TokenLine) (lines : List TokenLine) (vs : List Variable) → LinesSay earlier (line ∷ lines) (Ok vs) →
     (now : List Variable) × (name : List ℕ) × (tree : Tree) × IsLine earlier line name tree now × LinesSay now lines (Ok vs)
 first_line_read earlier line lines vs h =
     let f = follows_ok h.0 (λ next. LinesSay next lines (Ok vs)) vs h.2 in
-    let r = line_read earlier line (header_of line.lexemes) f.0 (subst (LineSays earlier line (header_of line.lexemes)) f.1 h.1) in
+    let r = line_read earlier line (header_of line.lexemes) f.0 (subst (LineSays earlier line) f.1 h.1) in
     (f.0, r.0, r.1, r.2, f.2)
 
 -- variables that a line makes have the names and the nodes

@@ -27,7 +27,7 @@ HasBit g x r v = value_named g x r v.name ≡ value_of x r (λ _. false) v.node
 
 -- a name has the value of a part of a tree
 abbrev pub HasPart : Circuit → (ℕ → Bool) → List Bool → List ℕ → Tree → Type 0
-HasPart g x r name part = value_named g x r name ≡ steps.value (meaning_in g x r) part
+HasPart g x r name part = value_named g x r name ≡ steps.tree_value (meaning_in g x r) part
 
 -- the value of a header's node needs no other variable
 value_of_header : (x : ℕ → Bool) (r : List Bool) (inputs n randoms : ℕ) (e e' : ℕ → Bool) (v : Node) → IsHeaderNode inputs n randoms v → value_of x r e v ≡ value_of x r e' v

@@ -1,36 +1,23 @@
 -- A file says at most one thing.
-use Rattle.std.proofs.Common.{◌≡◌, ℕ, List, [], ◌∷◌, Option, Some, None, inl, inr, Result, sym, ap, ◌∙◌, subst}
+use Rattle.std.proofs.Common.{◌≡◌, ℕ, List, [], ◌∷◌, Option, Some, None, Result, sym, ap, ◌∙◌, subst}
 use Rattle.gadget_model.specs.Circuit.{Variable, Circuit}
 use Rattle.gadget_text.specs.declared.token.Header.{Header}
 use Rattle.gadget_text.specs.Tokens.{TokenLine}
-use Rattle.gadget_headers.specs.declared.file_error.FileError.{FileError}
-use Rattle.gadget_headers.specs.Errors.{◌>>=◌}
+use Rattle.gadget_text.specs.declared.file_error.FileError.{FileError}
+use Rattle.gadget_text.specs.Errors.{◌>>=◌}
 use Rattle.gadget_headers.specs.Headers.{Preamble, header_of}
-use Rattle.gadget_grammar.specs.Grammar.{Tree}
-use Rattle.gadget_grammar.proofs.Readings.{one_assignment}
-use Rattle.gadget_tree.specs.File.{file_headers, named_variables, with_line, AssignmentSays, LineSays, Follows, LinesSay, with_outputs, BodySays, FileSays}
+use Rattle.gadget_grammar.specs.Assignments.{Assigned}
+use Rattle.gadget_grammar.proofs.Said.{assignment_once}
+use Rattle.gadget_tree.specs.File.{file_headers, named_variables, with_assigned, SaysByHeader, Follows, LinesSay, with_outputs, BodySays, FileSays}
 use Rattle.gadget_tree.proofs.Follows.{follows_once}
 
--- an assignment line
-assignment_once : (earlier : List Variable) (line : TokenLine) (r s : Result (List Variable) FileError) → AssignmentSays earlier line r → AssignmentSays earlier line s → r ≡ s
-assignment_once earlier line r s (inl g) (inl h) = g.1 ∙ sym h.1
-assignment_once earlier line r s (inl g) (inr (inl h)) = absurd (h.0 g.0)
-assignment_once earlier line r s (inl g) (inr (inr h)) = absurd (h.0 g.0)
-assignment_once earlier line r s (inr (inl g)) (inl h) = absurd (g.0 h.0)
-assignment_once earlier line r s (inr (inr g)) (inl h) = absurd (g.0 h.0)
-assignment_once earlier line r s (inr (inl g)) (inr (inl h)) = g.2 ∙ sym h.2
-assignment_once earlier line r s (inr (inl g)) (inr (inr h)) = absurd (g.1 h.1 h.2 h.3)
-assignment_once earlier line r s (inr (inr g)) (inr (inl h)) = absurd (h.1 g.1 g.2 g.3)
-assignment_once earlier line r s (inr (inr g)) (inr (inr h)) =
-    let e = one_assignment line.lexemes g.1 h.1 g.2 h.2 g.3 h.3 in
-    g.4 ∙ ap (λ (name : List ℕ). with_line line.number earlier name g.2) e.0 ∙ ap (λ (tree : Tree). with_line line.number earlier h.1 tree) e.1 ∙ sym h.4
-
--- a line behind the headers
-line_once : (earlier : List Variable) (line : TokenLine) (o : Option Header) (r s : Result (List Variable) FileError) → LineSays earlier line o r → LineSays earlier line o s → r ≡ s
-line_once earlier line None r s g h = assignment_once earlier line r s g h
+-- a line after the headers
+line_once : (earlier : List Variable) (line : TokenLine) (o : Option Header) (r s : Result (List Variable) FileError) → SaysByHeader earlier line o r → SaysByHeader earlier line o s → r ≡ s
+line_once earlier line None r s g h =
+    g.2 ∙ ap (λ (z : Result Assigned FileError). z >>= with_assigned line.number earlier) (assignment_once line g.0 h.0 g.1 h.1) ∙ sym h.2
 line_once earlier line (Some header) r s g h = g ∙ sym h
 
--- the lines behind the headers
+-- the lines after the headers
 lines_once : (lines : List TokenLine) (earlier : List Variable) (r s : Result (List Variable) FileError) → LinesSay earlier lines r → LinesSay earlier lines s → r ≡ s
 lines_once [] earlier r s g h = g ∙ sym h
 lines_once (line ∷ lines) earlier r s g h =

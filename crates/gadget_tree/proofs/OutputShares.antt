@@ -1,6 +1,6 @@
 -- The output shares of a file that misses none.
 use Rattle.std.proofs.Common.{◌≡◌, ◌≢◌, ◌<◌, ◌+◌, ℕ, Bool, true, false, cond, not, ◌&&◌, List, [], ◌∷◌, ◌++◌, map, length, Option, Some, None, Ok, refl, sym, ap, ◌∙◌, Contains}
-use Rattle.std.specs.Prelude.{All, AllPairs}
+use Rattle.std.specs.Prelude.{All, AllPairs, option_map}
 use Rattle.std.specs.List.{list_all, find, range_with_len}
 use Rattle.std.proofs.lemmas.Bool.{and_parts}
 use Rattle.std.proofs.lemmas.List.{map-append}
@@ -9,10 +9,10 @@ use Rattle.std.proofs.lemmas.List.Sums.{AllPass-from_list_all}
 use Rattle.list_laws.proofs.Counts.{map-map}
 use Rattle.list_laws.proofs.Members.{AllPairs-map, AllPairs-weaker}
 use Rattle.gadget_model.specs.Circuit.{Variable, Circuit}
+use Rattle.gadget_text.specs.Errors.{refuse_found, ◌>>◌}
 use Rattle.gadget_headers.specs.Headers.{Preamble}
 use Rattle.gadget_tree.specs.Variables.{share_name, share_names, names_of, name_at, is_among, place_of, AreDistinct}
-use Rattle.gadget_tree.specs.File.{OutputShare, output_shares_from, flat_gadget, complete, with_outputs}
-use Rattle.gadget_tree.specs.Missing.{output_share}
+use Rattle.gadget_tree.specs.File.{OutputShare, output_share, output_shares_from, flat_gadget, offence_of, first_missing, with_outputs}
 use Rattle.gadget_tree.proofs.Names.{place_of_variable, name_at-place_of, place_once}
 
 -- the name of a share
@@ -36,7 +36,7 @@ none_missing names (share ∷ shares) e = by_cases (is_among names share.name) e
   by_cases true f ih = ih f
   by_cases false f ih = absurd cc
 
-completed : (h : Preamble) (variables : List Variable) (g : Circuit) (o : Option OutputShare) → complete h variables o ≡ Ok g → (o ≡ None) × (g ≡ flat_gadget h variables)
+completed : (h : Preamble) (variables : List Variable) (g : Circuit) (o : Option OutputShare) → (refuse_found (option_map offence_of o) >> Ok (flat_gadget h variables)) ≡ Ok g → (o ≡ None) × (g ≡ flat_gadget h variables)
 completed h variables g None e = (refl, let f = e in cc)
 completed h variables g (Some share) e = absurd cc
 
@@ -45,7 +45,7 @@ pub outputs_made : (h : Preamble) (variables : List Variable) (g : Circuit) → 
     (g ≡ flat_gadget h variables) × (list_all (is_among (names_of variables)) (share_names h.shares h.outputs.stems) ≡ true)
 outputs_made h variables g e =
     let shares = output_shares_from h.shares 0 h.outputs.stems in
-    let c = completed h variables g (find (λ share. not (is_among (names_of variables) share.name)) shares) e in (
+    let c = completed h variables g (first_missing variables shares) e in (
       c.1,
       ap (list_all (is_among (names_of variables))) (sym (names-output_shares_from h.shares 0 h.outputs.stems)) ∙ none_missing (names_of variables) shares c.0,
     )

@@ -11,19 +11,18 @@ use Rattle.gadget_text.proofs.SpacedWords.{spaced, joined_spaced}
 use Rattle.gadget_tree.specs.declared.var.Var.{Var}
 use Rattle.gadget_tree.specs.Seen.{node_of, variable_of, variables_of}
 use Rattle.gadget_tree.specs.Variables.{name_at}
-use Rattle.gadget_tree.specs.Printed.{printed_line, printed_lines, randoms_among, operations_among}
-use Rattle.gadget_tree.specs.Canonical.{random_names, randoms_line, canonical_text}
+use Rattle.gadget_tree.specs.Canonical.{randoms_line, randoms_among, operations_among, printed_line, printed_lines, canonical_text}
 
 -- the canonical text in its parts
 pub canonical_parts : (g : Circuit) →
-    canonical_text g ≡ printed_line (codes "#SHARES" ∷ decimal g.shares ∷ []) ++ printed_line (codes "#IN" ∷ g.inputs) ++ printed_lines (randoms_line (random_names g))
+    canonical_text g ≡ printed_line (codes "#SHARES" ∷ decimal g.shares ∷ []) ++ printed_line (codes "#IN" ∷ g.inputs) ++ printed_lines (randoms_line (randoms_among g.variables))
     ++ printed_line (codes "#OUT" ∷ g.outputs) ++ printed_lines (operations_among g.variables g.variables)
 unfolding canonical_text
 canonical_parts g =
     let first = codes "#SHARES" ∷ decimal g.shares ∷ [] in
     let second = codes "#IN" ∷ g.inputs in
     let last = codes "#OUT" ∷ g.outputs in
-    let randoms = randoms_line (random_names g) in
+    let randoms = randoms_line (randoms_among g.variables) in
     let operations = operations_among g.variables g.variables in
     flat_map-append printed_line (first ∷ second ∷ randoms ++ last ∷ []) operations
     ∙ ap (λ (z : List ℕ). z ++ printed_lines operations) (
@@ -42,7 +41,7 @@ printed_parts g n inputs outputs variables first second third fourth all a b c d
     let listed = f ∙ ap (λ (z : List ℕ). z ++ printed_line (codes "#IN" ∷ inputs)) shares ∙ ap (λ (z : List (List ℕ)). printed_line (codes "#SHARES" ∷ decimal g.shares ∷ []) ++ printed_line (codes "#IN" ∷ z)) b in
     let drawn =
     h ∙ ap (λ (z : List Variable). second ++ printed_lines (randoms_line (randoms_among z))) d
-    ∙ ap (λ (z : List ℕ). z ++ printed_lines (randoms_line (random_names g))) listed in
+    ∙ ap (λ (z : List ℕ). z ++ printed_lines (randoms_line (randoms_among g.variables))) listed in
     let ended = i ∙ ap (λ (z : List (List ℕ)). third ++ printed_line (codes "#OUT" ∷ z)) c ∙ ap (λ (z : List ℕ). z ++ printed_line (codes "#OUT" ∷ g.outputs)) drawn in
     j ∙ ap (λ (z : List ℕ). z ++ printed_lines (operations_among g.variables g.variables)) ended ∙ sym (canonical_parts g)
 

@@ -1,13 +1,15 @@
 -- What a file that is read has said, part by part.
 use Rattle.std.proofs.Common.{◌≡◌, ℕ, List, Option, Some, None, Result, Ok, sym, subst}
+use Rattle.std.specs.Prelude.{option_map}
 use Rattle.gadget_model.specs.Circuit.{Variable, Circuit}
 use Rattle.gadget_text.specs.Lines.{lines_of, first_not_text}
 use Rattle.gadget_text.specs.Tokens.{TokenLine, token_lines}
-use Rattle.gadget_headers.specs.declared.file_error.FileError.{FileError}
-use Rattle.gadget_headers.specs.Errors.{◌>>=◌}
+use Rattle.gadget_text.specs.declared.file_error.FileError.{FileError}
+use Rattle.gadget_text.specs.declared.file_error.FileError.TheVariants.{NotText}
+use Rattle.gadget_text.specs.Errors.{refuse_found, ◌>>=◌, ◌>>◌}
 use Rattle.gadget_headers.specs.Headers.{Preamble, preamble_of}
-use Rattle.gadget_headers.proofs.Results.{then_gives}
-use Rattle.gadget_tree.specs.File.{text_of, file_headers, named_variables, Follows, LinesSay, with_outputs, BodySays, FileSays}
+use Rattle.gadget_text.proofs.Results.{then_gives}
+use Rattle.gadget_tree.specs.File.{file_headers, named_variables, Follows, LinesSay, with_outputs, BodySays, FileSays}
 use Rattle.gadget_tree.proofs.Follows.{follows_ok}
 
 -- what was said on the way to a gadget: the headers, the variables that they name, all variables behind the lines, and the gadget
@@ -22,7 +24,7 @@ says_ok : (start : List Variable) (lines : List TokenLine) (s : Result (List Var
 says_ok start lines s variables e h = subst (LinesSay start lines) e h
 
 -- the headers of a file that is text
-headers_ok : (bytes : List ℕ) (o : Option ℕ) (h : Preamble) → (text_of bytes o >>= preamble_of) ≡ Ok h → preamble_of (token_lines bytes) ≡ Ok h
+headers_ok : (bytes : List ℕ) (o : Option ℕ) (h : Preamble) → ((refuse_found (option_map NotText o) >> Ok (token_lines bytes)) >>= preamble_of) ≡ Ok h → preamble_of (token_lines bytes) ≡ Ok h
 headers_ok bytes None h e = e
 headers_ok bytes (Some line) h e = absurd cc
 

@@ -1,24 +1,32 @@
 -- What each step on the way through a file says of it.
-use Rattle.std.proofs.Common.{◌≡◌, ℕ, List, Option, None, Result, Ok, Err, refl, sym, ap, ◌∙◌}
+use Rattle.std.proofs.Common.{◌≡◌, ℕ, List, Option, Some, None, Result, Ok, Err, refl, sym, ap, ◌∙◌}
+use Rattle.std.specs.Prelude.{option_map}
 use Rattle.gadget_model.specs.Circuit.{Variable, Circuit}
 use Rattle.gadget_text.specs.declared.token.Token.{Token}
 use Rattle.gadget_text.specs.Lines.{lines_of, first_not_text}
-use Rattle.gadget_text.specs.Tokens.{TokenLine}
+use Rattle.gadget_text.specs.Tokens.{TokenLine, token_lines}
 use Rattle.gadget_text.specs.Places.{tokens_of, lines_in}
 use Rattle.gadget_text.proofs.LineRuns.{file_runs}
-use Rattle.gadget_headers.specs.declared.file_error.FileError.{FileError}
-use Rattle.gadget_headers.specs.Errors.{◌>>=◌}
+use Rattle.gadget_text.specs.declared.file_error.FileError.{FileError}
+use Rattle.gadget_text.specs.declared.file_error.FileError.TheVariants.{NotText}
+use Rattle.gadget_text.specs.Errors.{refuse_found, ◌>>=◌, ◌>>◌}
 use Rattle.gadget_headers.specs.Headers.{Preamble, preamble_of}
-use Rattle.gadget_tree.specs.File.{text_of, file_headers, named_variables, Follows, LinesSay, with_outputs, BodySays, FileSays}
+use Rattle.gadget_tree.specs.File.{file_lines, file_headers, named_variables, Follows, LinesSay, with_outputs, BodySays, FileSays}
 use Rattle.gadget_tree.proofs.Follows.{follows_value, follows_offence}
 
--- the tokens of a file that is text
-pub text_read : (bytes : List ℕ) (tokens : List Token) (o : Option ℕ) → tokens ≡ tokens_of bytes → o ≡ None → text_of bytes o ≡ Ok (lines_in bytes tokens)
-text_read bytes tokens o e n = ap (text_of bytes) n ∙ ap (λ (lines : List TokenLine). let r : Result (List TokenLine) FileError = Ok lines in r) (sym (ap (lines_in bytes) e ∙ file_runs bytes))
-
--- what the text says of a file
+-- what the text of a file says
 abbrev pub TextSays : List ℕ → Result (List TokenLine) FileError → Type 0
-TextSays bytes r = text_of bytes (first_not_text 1 (lines_of bytes)) ≡ r
+TextSays bytes r = file_lines bytes ≡ r
+
+-- the tokens of a file that is text
+pub text_read : (bytes : List ℕ) (tokens : List Token) → tokens ≡ tokens_of bytes → first_not_text 1 (lines_of bytes) ≡ None → TextSays bytes (Ok (lines_in bytes tokens))
+text_read bytes tokens e n =
+    let ok : Result (List TokenLine) FileError = Ok (token_lines bytes) in
+    ap (λ (o : Option ℕ). refuse_found (option_map NotText o) >> ok) n ∙ ap Ok (sym (ap (lines_in bytes) e ∙ file_runs bytes))
+
+-- the first line of a file that is no text
+pub text_named : (bytes : List ℕ) (line : ℕ) → first_not_text 1 (lines_of bytes) ≡ Some line → TextSays bytes (Err (NotText line))
+text_named bytes line n = let ok : Result (List TokenLine) FileError = Ok (token_lines bytes) in ap (λ (o : Option ℕ). refuse_found (option_map NotText o) >> ok) n
 
 -- the same of equal tokens
 pub text_given : (bytes : List ℕ) (tokens given : List Token) → given ≡ tokens → TextSays bytes (Ok (lines_in bytes tokens)) → TextSays bytes (Ok (lines_in bytes given))

@@ -1,33 +1,22 @@
 -- A file says at least one thing.
-use Rattle.std.proofs.Common.{◌⊎◌, ℕ, List, [], ◌∷◌, Option, Some, None, inl, inr, Result, Ok, Err, refl}
+use Rattle.std.proofs.Common.{ℕ, List, [], ◌∷◌, Option, Some, None, Result, Ok, Err, refl}
 use Rattle.gadget_model.specs.Circuit.{Variable, Circuit}
 use Rattle.gadget_text.specs.declared.token.Header.{Header}
 use Rattle.gadget_text.specs.Tokens.{TokenLine}
-use Rattle.gadget_headers.specs.declared.file_error.FileError.{FileError}
-use Rattle.gadget_headers.specs.declared.file_error.FileError.TheVariants.{Syntax, TooMany}
-use Rattle.gadget_headers.specs.declared.file_error.What.TheVariants.{Nesting}
-use Rattle.gadget_headers.specs.Errors.{◌>>=◌}
+use Rattle.gadget_text.specs.declared.file_error.FileError.{FileError}
+use Rattle.gadget_text.specs.declared.file_error.FileError.TheVariants.{Syntax}
+use Rattle.gadget_text.specs.Errors.{◌>>=◌}
 use Rattle.gadget_headers.specs.Headers.{Preamble, header_of}
-use Rattle.gadget_grammar.specs.Grammar.{Tree, IsAssignment}
-use Rattle.gadget_grammar.specs.Nesting.{IsTooDeep}
-use Rattle.gadget_grammar.proofs.Decided.{assignment_or_none, deep_or_not}
-use Rattle.gadget_tree.specs.File.{file_headers, named_variables, with_line, AssignmentSays, LineSays, Follows, LinesSay, with_outputs, BodySays, FileSays}
+use Rattle.gadget_grammar.proofs.Said.{assignment_some}
+use Rattle.gadget_tree.specs.File.{file_headers, named_variables, with_assigned, SaysByHeader, Follows, LinesSay, with_outputs, BodySays, FileSays}
 use Rattle.gadget_tree.proofs.Follows.{follows_some}
 
--- an assignment line
-assignment_some : (earlier : List Variable) (line : TokenLine) → IsTooDeep line.lexemes ⊎ (IsTooDeep line.lexemes → ⊥) →
-    ((name : List ℕ) × (tree : Tree) × IsAssignment line.lexemes name tree) ⊎ ((name : List ℕ) (tree : Tree) → IsAssignment line.lexemes name tree → ⊥) →
-    (r : Result (List Variable) FileError) × AssignmentSays earlier line r
-assignment_some earlier line (inl deep) d = (Err (TooMany Nesting), inl (deep, refl))
-assignment_some earlier line (inr not_deep) (inl a) = (with_line line.number earlier a.0 a.1, inr (inr (not_deep, a.0, a.1, a.2, refl)))
-assignment_some earlier line (inr not_deep) (inr none) = (Err (Syntax line.number), inr (inl (not_deep, none, refl)))
-
--- a line behind the headers
-line_some : (earlier : List Variable) (line : TokenLine) (o : Option Header) → (r : Result (List Variable) FileError) × LineSays earlier line o r
-line_some earlier line None = assignment_some earlier line (deep_or_not line.lexemes) (assignment_or_none line.lexemes)
+-- a line after the headers
+line_some : (earlier : List Variable) (line : TokenLine) (o : Option Header) → (r : Result (List Variable) FileError) × SaysByHeader earlier line o r
+line_some earlier line None = let said = assignment_some line in (said.0 >>= with_assigned line.number earlier, (said.0, said.1, refl))
 line_some earlier line (Some header) = (Err (Syntax line.number), refl)
 
--- the lines behind the headers
+-- the lines after the headers
 lines_some : (lines : List TokenLine) (earlier : List Variable) → (r : Result (List Variable) FileError) × LinesSay earlier lines r
 lines_some [] earlier = (Ok earlier, refl)
 lines_some (line ∷ lines) earlier =

@@ -6,7 +6,7 @@ use Rattle.gadget_model.specs.Bits.{add}
 use Rattle.gadget_model.specs.Circuit.{Node, value_of}
 use Rattle.gadget_model.specs.Circuit as node
 use Rattle.gadget_grammar.specs.Grammar.{Tree, named, parens, sum_of, product_of}
-use Rattle.gadget_grammar.specs.Steps.{Meaning, value}
+use Rattle.gadget_grammar.specs.Steps.{Meaning, tree_value}
 use Rattle.gadget_tree.specs.Variables.{is_among}
 use Rattle.gadget_tree.specs.Operations.{operations, or_copied, line_parts, leaves, top, operation_nodes, or_copy, line_nodes}
 use Rattle.gadget_tree.proofs.Numbered.{AllFrom, AllFrom-append, AllFrom-append_left, AllFrom-append_right}
@@ -22,7 +22,7 @@ meaning of_name = record { of_name = of_name; of_sum = add; of_product = λ a b.
 
 -- variable k has the value of the tree, where names have these values
 abbrev pub HasTree : (ℕ → Bool) → (List ℕ → Bool) → ℕ → Tree → Type 0
-HasTree have of_name k t = have k ≡ value (meaning of_name) t
+HasTree have of_name k t = have k ≡ tree_value (meaning of_name) t
 
 -- `have` says the values of variables, and `of_name` those of names, each of which is the value of the variable that `look` finds
 module _ (x : ℕ → Bool) (r : List Bool) (have : ℕ → Bool) (names : List (List ℕ)) (look : List ℕ → ℕ) (of_name : List ℕ → Bool) (same : (w : List ℕ) → is_among names w ≡ true → have (look w) ≡ of_name w) where
@@ -36,7 +36,7 @@ module _ (x : ℕ → Bool) (r : List Bool) (have : ℕ → Bool) (names : List 
       (AllFrom (HasNode x r have) base (operation_nodes look base a) → HasParts base a) →
       (AllFrom (HasNode x r have) (base + length (operations a)) (operation_nodes look (base + length (operations a)) b) → HasParts (base + length (operations a)) b) →
       (HasTree have of_name (top look base a) a → HasTree have of_name (top look (base + length (operations a)) b) b →
-      value_of x r have v ≡ value (meaning of_name) t) →
+      value_of x r have v ≡ tree_value (meaning of_name) t) →
       AllFrom (HasTree have of_name) base (operations a ++ operations b ++ t ∷ []) × HasTree have of_name (base + length (operations a) + length (operations b)) t
   both_values base a b t v h left right last =
       let N = HasNode x r have in

@@ -12,8 +12,9 @@ random_name name (copy a) = []
 random_name name (sum_of a b) = []
 random_name name (product_of a b) = []
 
-abbrev pub random_names : Circuit → List (List ℕ)
-random_names g = flat_map (λ v. random_name v.name v.node) g.variables
+-- the names of the randoms among variables
+abbrev pub randoms_among : List Variable → List (List ℕ)
+randoms_among variables = flat_map (λ v. random_name v.name v.node) variables
 
 -- the line `#RANDOMS`, where there are any
 abbrev pub randoms_line : List (List ℕ) → List (List (List ℕ))
@@ -28,15 +29,27 @@ operation_line variables x (copy a) = (x ∷ codes "=" ∷ name_at variables a �
 operation_line variables x (sum_of a b) = (x ∷ codes "=" ∷ name_at variables a ∷ codes "+" ∷ name_at variables b ∷ []) ∷ []
 operation_line variables x (product_of a b) = (x ∷ codes "=" ∷ name_at variables a ∷ codes "*" ∷ name_at variables b ∷ []) ∷ []
 
+-- the lines of the operations among variables, whose operands are among all of them
+abbrev pub operations_among : List Variable → List Variable → List (List (List ℕ))
+operations_among all variables = flat_map (λ v. operation_line all v.name v.node) variables
+
 -- the words of each line of the canonical text
 abbrev pub canonical_lines : Circuit → List (List (List ℕ))
 canonical_lines g =
-    (codes "#SHARES" ∷ decimal g.shares ∷ []) ∷ (codes "#IN" ∷ g.inputs) ∷ randoms_line (random_names g) ++ (codes "#OUT" ∷ g.outputs) ∷ []
-    ++ flat_map (λ v. operation_line g.variables v.name v.node) g.variables
+    (codes "#SHARES" ∷ decimal g.shares ∷ []) ∷ (codes "#IN" ∷ g.inputs) ∷ randoms_line (randoms_among g.variables)
+    ++ (codes "#OUT" ∷ g.outputs) ∷ [] ++ operations_among g.variables g.variables
 
--- the canonical text: one space stands between words, and each line ends with a line feed
+-- a line of words: one space stands between them, and it ends with a line feed
+abbrev pub printed_line : List (List ℕ) → List ℕ
+printed_line words = join_with_byte 32 words ++ 10 ∷ []
+
+-- lines of words
+abbrev pub printed_lines : List (List (List ℕ)) → List ℕ
+printed_lines lines = flat_map printed_line lines
+
+-- the canonical text
 unfoldable pub canonical_text : Circuit → List ℕ
-canonical_text g = flat_map (λ words. join_with_byte 32 words ++ 10 ∷ []) (canonical_lines g)
+canonical_text g = printed_lines (canonical_lines g)
 
 -- two gadgets are equal apart from the lines of their variables
 pub record AreEqualButForLines (g h : Circuit) : Type 0 where

@@ -1,5 +1,6 @@
 -- What holds of each gadget that the code makes.
 use Rattle.std.specs.Prelude.{◌≡◌, ◌≢◌, ℕ, ◌+◌, ◌*◌, ◌<◌, ◌≤◌, IsTrue, List, ◌++◌, map, length, slice_index, All, AllPairs, Contains, Option, Some, None}
+use Rattle.gadget_limits.specs.Limits.{most_shares, most_inputs, most_outputs, most_randoms, most_variables}
 use Rattle.gadget_model.specs.Circuit.{Node, share, random, copy, sum_of, product_of, Variable, Circuit, nodes, IsInOrder}
 use Rattle.gadget_tree.specs.declared.var.Var.{Var}
 use Rattle.gadget_tree.specs.declared.var.VarKind.{VarKind}
@@ -60,13 +61,13 @@ pub record IsLaidOut (g : Circuit) (input_line random_line : ℕ) (randoms : Lis
 -- variable of its name, no variable is two output shares, and the variables are input shares, randoms and then operations
 pub record IsGadget (g : Circuit) : Type 0 where
   pub some_shares : 1 ≤ g.shares
-  pub few_shares : g.shares ≤ 16
+  pub few_shares : g.shares ≤ most_shares
   pub some_inputs : 1 ≤ length g.inputs
-  pub few_inputs : length g.inputs ≤ 4
+  pub few_inputs : length g.inputs ≤ most_inputs
   pub some_outputs : 1 ≤ length g.outputs
-  pub few_outputs : length g.outputs ≤ 2
-  pub few_randoms : g.randoms ≤ 128
-  pub few_variables : length g.variables ≤ 511
+  pub few_outputs : length g.outputs ≤ most_outputs
+  pub few_randoms : g.randoms ≤ most_randoms
+  pub few_variables : length g.variables ≤ most_variables
   pub distinct_names : AreDistinct (names_of g.variables)
   pub in_order : IsInOrder g
   pub shares_numbered : All (IsNumberedNode g) (nodes g)

@@ -10,6 +10,3 @@ pub mod Inside
 pub mod Values
 pub mod Wires
 pub mod Canonical
-pub mod Named
-pub mod Missing
-pub mod Printed

@@ -3,10 +3,11 @@ use Rattle.std.specs.Prelude.{ℕ, ◌+◌, ◌-◌, Bool, true, not, ◌==◌, 
 use Rattle.std.specs.List.{list_any, list_all, range_with_len}
 use Rattle.gadget_model.specs.Circuit.{Node, Variable}
 use Rattle.gadget_model.specs.Circuit as node
-use Rattle.gadget_headers.specs.declared.file_error.FileError.{FileError}
-use Rattle.gadget_headers.specs.declared.file_error.FileError.TheVariants.{NameTwice, Unknown, TooMany}
-use Rattle.gadget_headers.specs.declared.file_error.What.TheVariants.{Variables}
-use Rattle.gadget_headers.specs.Errors.{unless}
+use Rattle.gadget_text.specs.declared.file_error.FileError.{FileError}
+use Rattle.gadget_text.specs.declared.file_error.FileError.TheVariants.{NameTwice, Unknown, TooMany}
+use Rattle.gadget_text.specs.declared.file_error.What.TheVariants.{Variables}
+use Rattle.gadget_limits.specs.Limits.{most_variables}
+use Rattle.gadget_text.specs.Errors.{refuse, ◌>>◌}
 use Rattle.gadget_grammar.specs.Steps.{NamedStep, name, sum, product}
 use Rattle.gadget_tree.specs.declared.making.Making as code
 use Rattle.gadget_tree.specs.Seen.{node_of}
@@ -101,10 +102,11 @@ finished m = or_copy_last m.stack m.nodes
 abbrev pub nodes_made : (List ℕ → ℕ) → ℕ → List NamedStep → List Node
 nodes_made look base steps = finished (after_steps look base start steps)
 
--- the variables behind an assignment line with these steps, where these are those before it
+-- the variables after an assignment line with these steps, where these are those before it
 abbrev pub with_steps : ℕ → List Variable → List ℕ → List NamedStep → Result (List Variable) FileError
-with_steps line earlier x steps =
-    unless (list_any (is_among (names_of earlier)) (names_made x (count_made steps))) (NameTwice line)
-    (unless (not (list_all (is_known (names_of earlier)) steps)) (Unknown line)
-    (unless (nat_lt 511 (length earlier + count_made steps)) (TooMany Variables)
-    (Ok (earlier ++ made_variables line (names_made x (count_made steps)) (nodes_made (place_of (names_of earlier)) (length earlier) steps)))))
+with_steps line earlier x steps = do
+  refuse (list_any (is_among (names_of earlier)) (names_made x (count_made steps))) (NameTwice line)
+  refuse (not (list_all (is_known (names_of earlier)) steps)) (Unknown line)
+  refuse (nat_lt most_variables (length earlier + count_made steps)) (TooMany Variables)
+  let nodes = nodes_made (place_of (names_of earlier)) (length earlier) steps
+  Ok (earlier ++ made_variables line (names_made x (count_made steps)) nodes)

@@ -1,8 +1,5 @@
 -- The code's variables and lines as the model's.
-use Rattle.std.specs.Prelude.{ℕ, ◌+◌, ◌*◌, List, map}
-use Rattle.gadget_text.specs.declared.line_tokens.LineTokens.{LineTokens}
-use Rattle.gadget_text.specs.Tokens.{TokenLine}
-use Rattle.gadget_text.specs.Places.{lexemes_in}
+use Rattle.std.specs.Prelude.{ℕ, ◌+◌, ◌*◌, List, ◌∷◌, map, flat_map}
 use Rattle.gadget_model.specs.Circuit.{Node, share, random, copy, sum_of, product_of, Variable}
 use Rattle.gadget_tree.specs.declared.var.Var.{Var}
 use Rattle.gadget_tree.specs.declared.var.VarKind.{VarKind}
@@ -22,6 +19,6 @@ variable_of v = record { name = v.name; node = node_of v.kind; line = v.line }
 abbrev pub variables_of : List Var → List Variable
 variables_of vars = map variable_of vars
 
--- a line of tokens without their places
-abbrev pub line_of : List ℕ → LineTokens → TokenLine
-line_of bytes line = record { number = line.line; lexemes = lexemes_in bytes line.tokens.now }
+-- words with a space in front of each
+abbrev pub printed_words : List (List ℕ) → List ℕ
+printed_words words = flat_map (λ word. 32 ∷ word) words

@@ -1,12 +1,13 @@
 //! Reading a gadget file.
 
-ghost use Rattle.std.specs.Prelude.{◌≡◌, ◌≢◌, ◌≤◌, ℕ, List, All, length, map, option_map, Ok, Err, IfOk, IfErr, IfSome};
-ghost use Rattle.gadget_text.specs.Lines.{lines_of, first_not_text};
+ghost use Rattle.std.specs.Prelude.{◌≡◌, ◌≤◌, ℕ, List, All, length, map, option_map, IfOk, IfSome};
+ghost use Rattle.gadget_limits.specs.Limits.{most_randoms};
+ghost use Rattle.gadget_text.specs.Errors.{Gives, Is, MemoryAside};
+ghost use Rattle.gadget_text.specs.Limits.{most_file_bytes};
 ghost use Rattle.gadget_text.specs.Places.{IsWithin, text_in, lines_in};
-ghost use Rattle.gadget_headers.specs.declared.file_error.FileError.TheVariants.{OutOfMemory};
 ghost use Rattle.gadget_headers.specs.Limits.{KeepsLimits, stems_of};
 ghost use Rattle.gadget_headers.specs.Seen.{preamble_in, listed_in, AreHeadersWithin};
-ghost use Rattle.gadget_tree.specs.File.{FileSays, text_of, flat_gadget};
+ghost use Rattle.gadget_tree.specs.File.{file_lines, FileSays, flat_gadget};
 ghost use Rattle.gadget_tree.specs.Gadgets.{IsGadget};
 
 use crate::gadget::{Gadget, Parts};
@@ -16,16 +17,15 @@ use crate::name_list::extend_names;
 use crate::outputs::output_shares;
 use crate::start::named_variables;
 use crate::variables::Variables;
-use gadget_headers::{FileError, Headers, Stems, read_headers};
-use gadget_text::{Token, tokens};
+use gadget_headers::{Headers, Stems, read_headers};
+use gadget_text::{FileError, Token, tokens};
 use std::alloc::{AllocError, Global};
 
 // The tokens of a file.
 fn file_tokens(alloc: Global, bytes: &[u8]) -> Result<Vec<Token>, FileError>
-    requires { length bytes.now ≤ 1048576 }
-    ensures ok { IfOk result (λ v. text_of bytes.now (first_not_text 1 (lines_of bytes.now)) ≡ Ok (lines_in bytes.now v.items)) }
+    requires { length bytes.now ≤ most_file_bytes }
+    ensures says { Gives (λ v. lines_in bytes.now v.items) result (MemoryAside (Is (file_lines bytes.now))) }
     ensures within { IfOk result (λ v. All (IsWithin (length bytes.now)) v.items) }
-    ensures refused { IfErr result (λ e. e ≢ OutOfMemory → text_of bytes.now (first_not_text 1 (lines_of bytes.now)) ≡ Err e) }
 {
     Ok(tokens(alloc, bytes)?)
 }
@@ -42,7 +42,7 @@ fn names(alloc: Global, bytes: &[u8], words: &[Token]) -> Result<Vec<Name>, Allo
 
 // How many randoms a header lists; none where it is missing.
 fn random_count(randoms: Option<Stems<'_>>) -> u16
-    requires { IfSome randoms (λ r. length r.words.now ≤ 128) }
+    requires { IfSome randoms (λ r. length r.words.now ≤ most_randoms) }
     ensures { (bytes : List ℕ) → result ≡ length (stems_of (option_map (listed_in bytes) randoms.entry)) }
 {
     match randoms {
@@ -74,13 +74,11 @@ fn flat_gadget(
     }))
 }
 
-/// The gadget that a file says, or its first offence. A file has at most a mebibyte. Time is linear in the file's length and that of
-/// the gadget's names, times the logarithm of how many variables there are; the names of the headers, at most 224, are held each
-/// against each.
+/// The gadget that a file says, or its first offence. Time is linear in the file's length and that of the gadget's names,
+/// times the logarithm of how many variables there are; the names of the headers, at most 224, are held each against each.
 pub fn read_gadget(alloc: Global, bytes: &[u8]) -> Result<Gadget, FileError>
-    requires short { length bytes.now ≤ 1048576 }
-    ensures ok { IfOk result (λ g. FileSays bytes.now (Ok g)) }
-    ensures refused { IfErr result (λ e. e ≢ OutOfMemory → FileSays bytes.now (Err e)) }
+    requires { length bytes.now ≤ most_file_bytes }
+    ensures { Gives (λ g. g) result (MemoryAside (FileSays bytes.now)) }
 {
     let tokens = file_tokens(alloc, bytes)?;
     let headers = read_headers(bytes, &tokens)?;

@@ -4,11 +4,11 @@ ghost use Rattle.std.specs.Prelude.{◌≡◌, ℕ, Bool, false, List, All, Cont
 ghost use Rattle.std.specs.List.{AllZip};
 ghost use Rattle.gadget_model.specs.Circuit.{Circuit, value_of};
 ghost use Rattle.gadget_text.specs.Tokens.{TokenLine, token_lines};
-ghost use Rattle.gadget_headers.specs.declared.file_error.FileError.{FileError};
-ghost use Rattle.gadget_headers.specs.declared.file_error.FileError.TheVariants.{OutOfMemory};
+ghost use Rattle.gadget_text.specs.declared.file_error.FileError.{FileError};
+ghost use Rattle.gadget_text.specs.declared.file_error.FileError.TheVariants.{OutOfMemory};
 ghost use Rattle.gadget_headers.specs.Headers.{Preamble, preamble_of};
 ghost use Rattle.gadget_grammar.specs.Grammar.{Tree, IsAssignment};
-ghost use Rattle.gadget_grammar.specs.Steps.{value};
+ghost use Rattle.gadget_grammar.specs.Steps.{tree_value};
 ghost use Rattle.gadget_tree.specs.Variables.{names_of, header_variables};
 ghost use Rattle.gadget_tree.specs.Operations.{line_names, line_parts};
 ghost use Rattle.gadget_tree.specs.File.{FileSays};
@@ -32,7 +32,7 @@ pub fn value_law()
         All (λ v. value_named g x r v.name ≡ value_of x r (λ _. false) v.node) (header_variables h) }
     ensures lines { (bytes : List ℕ) (g : Circuit) (line : TokenLine) (name : List ℕ) (tree : Tree) (x : ℕ → Bool) (r : List Bool) →
         FileSays bytes (Ok g) → Contains (token_lines bytes) line → IsAssignment line.lexemes name tree →
-        AllZip (λ n part. value_named g x r n ≡ value (meaning_in g x r) part) (line_names name tree) (line_parts tree) }
+        AllZip (λ n part. value_named g x r n ≡ tree_value (meaning_in g x r) part) (line_names name tree) (line_parts tree) }
 {}
 
 /// The wires of a file's gadget, by their names: the input shares and randoms, and then one for each operation of each line, or for

@@ -20,7 +20,7 @@ mod variables;
 
 pub use file::read_gadget;
 pub use gadget::{Gadget, one_output_law};
-pub use gadget_headers::{FileError, What};
+pub use gadget_text::{FileError, What};
 pub use laws::{canonical_law, reading_law, value_law, wires_law};
 pub use name::Name;
 pub use print::print_gadget;

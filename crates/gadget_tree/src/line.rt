@@ -1,9 +1,10 @@
-//! The lines behind the headers.
+//! The lines after the headers.
 
-ghost use Rattle.std.specs.Prelude.{◌≡◌, ◌≢◌, ◌<◌, ◌≤◌, ◌+◌, ◌++◌, ℕ, List, All, false, is_some, length, map, Ok, Err, IfOk, IfErr};
+ghost use Rattle.std.specs.Prelude.{◌≡◌, ◌<◌, ◌≤◌, ◌+◌, ◌++◌, ℕ, List, All, false, is_some, length, map, IfOk};
 ghost use Rattle.std.specs.List.{list_any};
-ghost use Rattle.gadget_text.specs.Places.{IsWithin, lexemes_in, lines_in};
-ghost use Rattle.gadget_headers.specs.declared.file_error.FileError.TheVariants.{OutOfMemory};
+ghost use Rattle.gadget_limits.specs.Limits.{most_variables};
+ghost use Rattle.gadget_text.specs.Errors.{Gives, Is, MemoryAside};
+ghost use Rattle.gadget_text.specs.Places.{IsWithin, lexemes_in, line_of, lines_in};
 ghost use Rattle.gadget_headers.specs.Headers.{header_of};
 ghost use Rattle.gadget_grammar.specs.Grammar.{Tree};
 ghost use Rattle.gadget_grammar.specs.Seen.{IsStepWithin, steps_in};
@@ -12,7 +13,7 @@ ghost use Rattle.gadget_tree.specs.File.{LineSays, LinesSay};
 ghost use Rattle.gadget_tree.specs.Gadgets.{IsOperationNode};
 ghost use Rattle.gadget_tree.specs.Made.{names_made, with_steps};
 ghost use Rattle.gadget_tree.specs.Operations.{made_variables};
-ghost use Rattle.gadget_tree.specs.Seen.{node_of, line_of};
+ghost use Rattle.gadget_tree.specs.Seen.{node_of};
 ghost use Rattle.gadget_tree.specs.Variables.{names_of, is_among};
 
 use crate::inner_names::{is_some_taken, name_made};
@@ -20,12 +21,12 @@ use crate::making::kinds_made;
 use crate::operations::{are_known, count_made};
 use crate::var::{Var, VarKind};
 use crate::variables::Variables;
-use gadget_grammar::{GrammarError, Step, assignment};
-use gadget_headers::{FileError, What};
-use gadget_text::{LineTokens, Token, TokenKind, first_line, text};
+use gadget_grammar::{Step, assignment};
+use gadget_limits::MOST_VARIABLES;
+use gadget_text::{FileError, LineTokens, Token, TokenKind, What, first_line, text};
 use std::alloc::{AllocError, Global};
 
-// The variables behind those that a line makes of operations of these kinds, which assigns to this name.
+// The variables after those that a line makes of operations of these kinds, which assigns to this name.
 fn with_kinds(
     alloc: Global,
     line: u32,
@@ -34,9 +35,10 @@ fn with_kinds(
     variables: Variables,
 ) -> Result<Variables, AllocError>
     requires fresh { list_any (is_among (names_of variables)) (names_made name.now (length kinds.now)) ≡ false }
-    requires room { length variables + length kinds.now ≤ 511 }
+    requires room { length variables + length kinds.now ≤ most_variables }
     requires operations { All (λ kind. IsOperationNode (node_of kind)) kinds.now }
-    ensures { IfOk result (λ v. v ≡ variables ++ made_variables line (names_made name.now (length kinds.now)) (map node_of kinds.now)) }
+    ensures { IfOk result (λ v.
+        v ≡ variables ++ made_variables line (names_made name.now (length kinds.now)) (map node_of kinds.now)) }
 {
     let mut now = variables;
     for (k, kind) in kinds.iter().enumerate() {
@@ -51,7 +53,7 @@ fn with_kinds(
     Ok(now)
 }
 
-// The variables behind a line that assigns what the steps of a tree give to a name, or the first offence.
+// The variables after a line that assigns what the steps of a tree give to a name, or the first offence.
 fn with_steps(
     alloc: Global,
     bytes: &[u8],
@@ -62,8 +64,9 @@ fn with_steps(
 ) -> Result<Variables, FileError>
     requires within { All (IsStepWithin (length bytes.now)) steps.now }
     requires tree { (tree : Tree) × (steps_in bytes.now steps.now ≡ postfix tree) }
-    ensures ok { IfOk result (λ v. with_steps line variables name.now (steps_in bytes.now steps.now) ≡ Ok v) }
-    ensures refused { IfErr result (λ e. e ≢ OutOfMemory → with_steps line variables name.now (steps_in bytes.now steps.now) ≡ Err e) }
+    ensures {
+        Gives (λ v. v) result
+        (MemoryAside (Is (with_steps line variables name.now (steps_in bytes.now steps.now)))) }
 {
     let count = count_made(steps);
     if is_some_taken(&variables, name, count) {
@@ -72,7 +75,7 @@ fn with_steps(
     if !are_known(bytes, &variables, steps) {
         return Err(FileError::Unknown(line));
     }
-    if count > 511 - variables.len() {
+    if count > MOST_VARIABLES - variables.len() {
         return Err(FileError::TooMany(What::Variables));
     }
     let kinds = kinds_made(alloc, bytes, &variables, steps)?;
@@ -90,7 +93,7 @@ fn is_header(tokens: &[Token]) -> bool
     }
 }
 
-// The variables behind a line, or its offence.
+// The variables after a line, or its offence.
 fn with_line(
     alloc: Global,
     bytes: &[u8],
@@ -99,26 +102,19 @@ fn with_line(
 ) -> Result<Variables, FileError>
     requires within { All (IsWithin (length bytes.now)) line.now.tokens.now }
     requires some { 0 < length line.now.tokens.now }
-    ensures ok { IfOk result (λ v. LineSays variables (line_of bytes.now line.now) (header_of (lexemes_in bytes.now line.now.tokens.now)) (Ok v)) }
-    ensures refused { IfErr result (λ e. e ≢ OutOfMemory → LineSays variables (line_of bytes.now line.now) (header_of (lexemes_in bytes.now line.now.tokens.now)) (Err e)) }
+    ensures { Gives (λ v. v) result (MemoryAside (LineSays variables (line_of bytes.now line.now))) }
 {
     if is_header(line.tokens) {
         return Err(FileError::Syntax(line.line));
     }
-    match assignment(alloc, bytes, line.tokens) {
-        Ok(says) => {
-            let name = text(bytes, says.name);
-            with_steps(alloc, bytes, line.line, name, &says.steps, variables)
-        }
-        Err(GrammarError::Nesting) => Err(FileError::TooMany(What::Nesting)),
-        Err(GrammarError::Syntax) => Err(FileError::Syntax(line.line)),
-        Err(GrammarError::OutOfMemory) => Err(FileError::OutOfMemory),
-    }
+    let says = assignment(alloc, bytes, line)?;
+    let name = text(bytes, says.name);
+    with_steps(alloc, bytes, line.line, name, &says.steps, variables)
 }
 
-/// The variables behind the lines to which these tokens belong, or the first offence in them. Time is linear in the length of the
-/// lines and of the names that they make, but for look-ups, which are logarithmic in how many variables there are, and for each
-/// line a look at each variable.
+/// The variables after the lines to which these tokens belong, or the first offence in them. Time is linear in the length
+/// of the lines and of the names that they make, but for look-ups, which are logarithmic in how many variables there are,
+/// and for each line a look at each variable.
 pub(crate) fn with_lines(
     alloc: Global,
     bytes: &[u8],
@@ -126,8 +122,7 @@ pub(crate) fn with_lines(
     variables: Variables,
 ) -> Result<Variables, FileError>
     requires within { All (IsWithin (length bytes.now)) tokens.now }
-    ensures ok { IfOk result (λ v. LinesSay variables (lines_in bytes.now tokens.now) (Ok v)) }
-    ensures refused { IfErr result (λ e. e ≢ OutOfMemory → LinesSay variables (lines_in bytes.now tokens.now) (Err e)) }
+    ensures { Gives (λ v. v) result (MemoryAside (LinesSay variables (lines_in bytes.now tokens.now))) }
 {
     let mut rest = tokens;
     let mut now = variables;

@@ -1,18 +1,17 @@
 //! The output shares of a file.
 
-ghost use Rattle.std.specs.Prelude.{◌≡◌, ◌≢◌, ◌++◌, length, map, option_map, None, Some, Ok, Err, IfOk, IfErr, OnOk};
+ghost use Rattle.std.specs.Prelude.{◌≡◌, ◌++◌, length, map, IfOk, OnOk};
 ghost use Rattle.std.specs.List.{range_with_len};
-ghost use Rattle.gadget_headers.specs.declared.file_error.FileError.TheVariants.{OutOfMemory};
+ghost use Rattle.gadget_text.specs.Errors.{Gives, Is, MemoryAside};
 ghost use Rattle.gadget_headers.specs.Limits.{KeepsLimits};
 ghost use Rattle.gadget_headers.specs.Seen.{preamble_in, AreHeadersWithin};
-ghost use Rattle.gadget_tree.specs.File.{with_outputs, flat_gadget};
-ghost use Rattle.gadget_tree.specs.Missing.{shares_of_output, first_missing, offence_of};
+ghost use Rattle.gadget_tree.specs.File.{shares_of_output, check_shares, with_outputs, flat_gadget};
 ghost use Rattle.gadget_tree.specs.Variables.{share_name, names_of, place_of};
 
 use crate::name_list::share_name;
 use crate::variables::Variables;
-use gadget_headers::{FileError, Headers};
-use gadget_text::text;
+use gadget_headers::Headers;
+use gadget_text::{FileError, text};
 use std::alloc::Global;
 
 // Adds the variables of the shares of one output.
@@ -24,9 +23,10 @@ fn push_shares(
     output: u8,
     stem: &[u8],
 ) -> Result<(), FileError>
-    ensures numbers { OnOk result (numbers.new.items ≡ numbers.old.items ++ map (place_of (names_of variables.now)) (map (share_name stem.now) (range_with_len 0 shares))) }
-    ensures all { OnOk result (first_missing variables.now (shares_of_output shares output stem.now) ≡ None) }
-    ensures missing { IfErr result (λ e. e ≢ OutOfMemory → option_map offence_of (first_missing variables.now (shares_of_output shares output stem.now)) ≡ Some e) }
+    ensures says {
+        Gives (λ _. tt) result (MemoryAside (Is (check_shares variables.now (shares_of_output shares output stem.now)))) }
+    ensures numbers { OnOk result (numbers.new.items ≡ numbers.old.items
+        ++ map (place_of (names_of variables.now)) (map (share_name stem.now) (range_with_len 0 shares))) }
 {
     for index in 0..shares {
         let name = share_name(alloc, stem, index)?;
@@ -47,9 +47,11 @@ pub(crate) fn output_shares(
 ) -> Result<Vec<u16>, FileError>
     requires within { AreHeadersWithin (length bytes.now) headers.now }
     requires limits { KeepsLimits (preamble_in bytes.now headers.now) }
-    ensures ok { IfOk result (λ v. with_outputs (preamble_in bytes.now headers.now) variables.now ≡ Ok (flat_gadget (preamble_in bytes.now headers.now) variables.now)) }
-    ensures numbers { IfOk result (λ v. v.items ≡ (flat_gadget (preamble_in bytes.now headers.now) variables.now).output_shares) }
-    ensures refused { IfErr result (λ e. e ≢ OutOfMemory → with_outputs (preamble_in bytes.now headers.now) variables.now ≡ Err e) }
+    ensures says {
+        Gives (λ _. flat_gadget (preamble_in bytes.now headers.now) variables.now) result
+        (MemoryAside (Is (with_outputs (preamble_in bytes.now headers.now) variables.now))) }
+    ensures numbers { IfOk result (λ v.
+        v.items ≡ (flat_gadget (preamble_in bytes.now headers.now) variables.now).output_shares) }
 {
     let mut numbers = Vec::new(alloc);
     for (output, stem) in headers.outputs.words.iter().enumerate() {

@@ -2,10 +2,9 @@
 
 ghost use Rattle.std.specs.Prelude.{◌≡◌, ◌<◌, ◌++◌, ◌∷◌, [], ℕ, length, codes, decimal, Ok, IfOk, OnOk};
 ghost use Rattle.gadget_model.specs.Circuit.{Circuit, NamesEarlier};
-ghost use Rattle.gadget_tree.specs.Seen.{node_of, variables_of};
+ghost use Rattle.gadget_tree.specs.Seen.{node_of, variables_of, printed_words};
 ghost use Rattle.gadget_tree.specs.File.{FileSays};
-ghost use Rattle.gadget_tree.specs.Canonical.{random_name, randoms_line, operation_line, canonical_text, AreEqualButForLines};
-ghost use Rattle.gadget_tree.specs.Printed.{printed_line, printed_lines, printed_words, randoms_among, operations_among};
+ghost use Rattle.gadget_tree.specs.Canonical.{random_name, randoms_line, randoms_among, operation_line, operations_among, printed_line, printed_lines, canonical_text, AreEqualButForLines};
 
 use crate::gadget::Gadget;
 use crate::name::Name;

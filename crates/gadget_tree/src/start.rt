@@ -1,12 +1,12 @@
 //! The variables that the headers name.
 
-ghost use Rattle.std.specs.Prelude.{◌≡◌, ◌≢◌, ◌≤◌, All, length, true, option_map, Ok, Err, IfOk, IfErr, IfSome, OnOk};
-ghost use Rattle.gadget_headers.specs.declared.file_error.FileError.TheVariants.{OutOfMemory};
+ghost use Rattle.std.specs.Prelude.{◌≡◌, ◌≤◌, length, true, option_map, IfOk, IfSome};
+ghost use Rattle.gadget_limits.specs.Limits.{most_variables};
+ghost use Rattle.gadget_text.specs.Errors.{Gives, Is, MemoryAside};
 ghost use Rattle.gadget_headers.specs.Limits.{KeepsLimits};
 ghost use Rattle.gadget_headers.specs.Seen.{preamble_in, listed_in, AreWordsWithin, AreHeadersWithin};
-ghost use Rattle.gadget_tree.specs.File.{distinct_randoms, named_variables};
+ghost use Rattle.gadget_tree.specs.File.{distinct_shares, distinct_randoms, named_variables};
 ghost use Rattle.gadget_tree.specs.Seen.{variables_of};
-ghost use Rattle.gadget_tree.specs.Named.{distinct_shares};
 ghost use Rattle.gadget_tree.specs.Variables.{names_of, are_distinct, header_variables};
 
 use crate::header_vars::header_vars;
@@ -14,7 +14,8 @@ use crate::name::Name;
 use crate::name_list::{are_distinct, extend_names, extend_share_names};
 use crate::var::Var;
 use crate::variables::Variables;
-use gadget_headers::{FileError, Headers, Stems};
+use gadget_headers::{Headers, Stems};
+use gadget_text::FileError;
 use std::alloc::{AllocError, Global};
 
 // These names and those of the shares of each stem, where all differ.
@@ -26,8 +27,8 @@ fn with_shares(
     stems: Stems<'_>,
 ) -> Result<Vec<Name>, FileError>
     requires { AreWordsWithin (length bytes.now) stems }
-    ensures ok { IfOk result (λ v. distinct_shares names.items shares (listed_in bytes.now stems.entry) ≡ Ok v.items) }
-    ensures refused { IfErr result (λ e. e ≢ OutOfMemory → distinct_shares names.items shares (listed_in bytes.now stems.entry) ≡ Err e) }
+    ensures {
+        Gives (λ v. v.items) result (MemoryAside (Is (distinct_shares names.items shares (listed_in bytes.now stems.entry)))) }
 {
     extend_share_names(alloc, bytes, &mut names, shares, stems.words)?;
     if !are_distinct(&names) {
@@ -44,8 +45,8 @@ fn with_randoms(
     randoms: Option<Stems<'_>>,
 ) -> Result<Vec<Name>, FileError>
     requires { IfSome randoms (AreWordsWithin (length bytes.now)) }
-    ensures ok { IfOk result (λ v. distinct_randoms names.items (option_map (listed_in bytes.now) randoms.entry) ≡ Ok v.items) }
-    ensures refused { IfErr result (λ e. e ≢ OutOfMemory → distinct_randoms names.items (option_map (listed_in bytes.now) randoms.entry) ≡ Err e) }
+    ensures {
+        Gives (λ v. v.items) result (MemoryAside (Is (distinct_randoms names.items (option_map (listed_in bytes.now) randoms.entry)))) }
 {
     let Some(randoms) = randoms else {
         return Ok(names);
@@ -60,8 +61,9 @@ fn with_randoms(
 // Refuses headers that have a name twice.
 fn check_names(alloc: Global, bytes: &[u8], headers: &Headers<'_>) -> Result<(), FileError>
     requires { AreHeadersWithin (length bytes.now) headers.now }
-    ensures ok { OnOk result (named_variables (preamble_in bytes.now headers.now) ≡ Ok (header_variables (preamble_in bytes.now headers.now))) }
-    ensures refused { IfErr result (λ e. e ≢ OutOfMemory → named_variables (preamble_in bytes.now headers.now) ≡ Err e) }
+    ensures {
+        Gives (λ _. header_variables (preamble_in bytes.now headers.now)) result
+        (MemoryAside (Is (named_variables (preamble_in bytes.now headers.now)))) }
 {
     let inputs = with_shares(
         alloc,
@@ -78,7 +80,7 @@ fn check_names(alloc: Global, bytes: &[u8], headers: &Headers<'_>) -> Result<(),
 // These variables, found by their names.
 fn indexed(alloc: Global, vars: Vec<Var>) -> Result<Variables, AllocError>
     requires distinct { are_distinct (names_of (variables_of vars.items)) ≡ true }
-    requires few { length vars.items ≤ 511 }
+    requires few { length vars.items ≤ most_variables }
     ensures { IfOk result (λ v. v ≡ variables_of vars.items) }
 {
     let mut variables = Variables::new(alloc);
@@ -96,8 +98,7 @@ pub(crate) fn named_variables(
 ) -> Result<Variables, FileError>
     requires within { AreHeadersWithin (length bytes.now) headers.now }
     requires limits { KeepsLimits (preamble_in bytes.now headers.now) }
-    ensures ok { IfOk result (λ v. named_variables (preamble_in bytes.now headers.now) ≡ Ok v) }
-    ensures refused { IfErr result (λ e. e ≢ OutOfMemory → named_variables (preamble_in bytes.now headers.now) ≡ Err e) }
+    ensures { Gives (λ v. v) result (MemoryAside (Is (named_variables (preamble_in bytes.now headers.now)))) }
 {
     check_names(alloc, bytes, headers)?;
     let vars = header_vars(alloc, bytes, headers)?;

@@ -3,4 +3,4 @@ use Rattle.gadget_text.proofs.Within.{tokens_within}
 use Rattle.gadget_grammar.proofs.tests.read.Goals as goal
 
 pub assignment-requires : goal.assignment-requires
-assignment-requires c = tokens_within c.args.line.now c.deref.result.now (c.deref.ensures.value ∙ c.in-Ok.ensures.tokens)
+assignment-requires c = tokens_within c.args.text.now c.deref.result.now (c.deref.ensures.value ∙ c.in_ok-tokens.ensures.tokens)

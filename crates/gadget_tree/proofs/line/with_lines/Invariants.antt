@@ -2,7 +2,7 @@ use Rattle.std.proofs.Common.{List, length}
 use Rattle.std.specs.Prelude.{All, Result}
 use Rattle.gadget_model.specs.Circuit.{Variable}
 use Rattle.gadget_text.specs.Places.{IsWithin, lines_in}
-use Rattle.gadget_headers.specs.declared.file_error.FileError.{FileError}
+use Rattle.gadget_text.specs.declared.file_error.FileError.{FileError}
 use Rattle.gadget_tree.specs.File.{LinesSay}
 use Rattle.gadget_tree.proofs.line.with_lines.Given as goal
 

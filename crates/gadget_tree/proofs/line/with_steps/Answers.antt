@@ -10,23 +10,23 @@ use Rattle.gadget_tree.proofs.line.with_steps.Goals as goal
 taken : (names : List (List ℕ)) (x : List ℕ) (count n : ℕ) (found b : Bool) → found ≡ list_any (is_among names) (names_made x count) → found ≡ b → count ≡ n → list_any (is_among names) (names_made x n) ≡ b
 taken names x count n found b e f g = sym (e ∙ ap (λ (k : ℕ). list_any (is_among names) (names_made x k)) g) ∙ f
 
-pub returns-then-is_some_taken-clause-refused : goal.returns-then-is_some_taken-clause-refused
-returns-then-is_some_taken-clause-refused c =
+pub returns-then-is_some_taken : goal.returns-then-is_some_taken
+returns-then-is_some_taken c =
     let earlier = c.args.variables in
     let steps = steps_in c.args.bytes.now c.args.steps.now in
     λ other. says-taken c.args.line earlier c.args.name.now steps
     (taken (names_of earlier) c.args.name.now c.count_made-count.result (count_made steps) c.is_some_taken.result true c.is_some_taken.ensures c.if-is_some_taken.true (c.count_made-count.ensures c.args.bytes.now))
 
-pub returns-then-not-are_known-clause-refused : goal.returns-then-not-are_known-clause-refused
-returns-then-not-are_known-clause-refused c =
+pub returns-then-not-are_known : goal.returns-then-not-are_known
+returns-then-not-are_known c =
     let earlier = c.args.variables in
     let steps = steps_in c.args.bytes.now c.args.steps.now in
     λ other. says-unknown c.args.line earlier c.args.name.now steps
     (taken (names_of earlier) c.args.name.now c.count_made-count.result (count_made steps) c.is_some_taken.result false c.is_some_taken.ensures c.if-is_some_taken.false (c.count_made-count.ensures c.args.bytes.now))
     (sym c.are_known.ensures ∙ c.if-not-are_known.true)
 
-pub returns-then-count-len-clause-refused : goal.returns-then-count-len-clause-refused
-returns-then-count-len-clause-refused c =
+pub returns-then-count-len : goal.returns-then-count-len
+returns-then-count-len c =
     let earlier = c.args.variables in
     let steps = steps_in c.args.bytes.now c.args.steps.now in
     λ other. says-many c.args.line earlier c.args.name.now steps
@@ -54,8 +54,8 @@ pub with_kinds-requires-clause-operations : goal.with_kinds-requires-clause-oper
 with_kinds-requires-clause-operations c =
     operations-kinds c.args.variables (steps_in c.args.bytes.now c.args.steps.now) c.deref.result.now c.in_ok-kinds.kinds.items c.requires.tree.0 c.requires.tree.1 c.deref.ensures.value c.in_ok-kinds.ensures
 
-pub returns-clause-ok : goal.returns-clause-ok
-returns-clause-ok c =
+pub returns : goal.returns
+returns c =
     let earlier = c.args.variables in
     let steps = steps_in c.args.bytes.now c.args.steps.now in
     says-made c.args.line earlier c.in_ok-with_kinds.field-0 c.args.name.now steps

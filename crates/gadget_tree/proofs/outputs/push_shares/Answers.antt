@@ -2,8 +2,8 @@ use Rattle.std.proofs.Common.{sym, ◌∙◌}
 use Rattle.gadget_tree.proofs.MissingShares.{missing_here, one_more_there, one_more_number}
 use Rattle.gadget_tree.proofs.outputs.push_shares.Goals as goal
 
-pub returns-in_default-clause-missing : goal.returns-in_default-clause-missing
-returns-in_default-clause-missing c = λ _.
+pub returns-in_default-clause-says : goal.returns-in_default-clause-says
+returns-in_default-clause-says c = λ _.
     missing_here c.args.variables.now c.args.shares c.args.output c.loop-index.index c.args.stem.now c.bytes.result.now c.loop-index-test.true c.loop-index.invariant.all
     (c.bytes.ensures ∙ c.in_ok-name.ensures) (sym c.in_default.ensures.among)
 

@@ -1,5 +1,5 @@
 use Rattle.std.proofs.Common.{◌≡◌, ◌++◌, take}
-use Rattle.gadget_tree.specs.Printed.{printed_words}
+use Rattle.gadget_tree.specs.Seen.{printed_words}
 use Rattle.gadget_tree.proofs.print.add_header.Given as goal
 
 abbrev pub invariant-loop-name : goal.invariant-loop-name

@@ -1,6 +1,6 @@
 use Rattle.std.proofs.Common.{◌≡◌, ◌++◌, take}
 use Rattle.gadget_tree.specs.Seen.{variables_of}
-use Rattle.gadget_tree.specs.Printed.{printed_lines, operations_among}
+use Rattle.gadget_tree.specs.Canonical.{printed_lines, operations_among}
 use Rattle.gadget_tree.proofs.print.add_operations.Given as goal
 
 abbrev pub invariant-loop-var : goal.invariant-loop-var

@@ -2,7 +2,7 @@
 use Rattle.std.proofs.Common.{◌≡◌, ◌==◌, false, sym, ap, ◌∙◌, ◌++◌}
 use Rattle.std.specs.Prelude.{vec_len}
 use Rattle.gadget_tree.specs.Seen.{variables_of}
-use Rattle.gadget_tree.specs.Printed.{randoms_among}
+use Rattle.gadget_tree.specs.Canonical.{randoms_among}
 use Rattle.gadget_tree.proofs.Printing.{randoms_done}
 use Rattle.gadget_tree.proofs.print.add_randoms.Goals as goal
 
