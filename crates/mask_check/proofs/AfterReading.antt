@@ -5,8 +5,8 @@ use Rattle.std.specs.Io.KnownBytes.{IsAtEnd}
 use Rattle.mask_bytes.specs.Flow.{LeavesSuffix, LosesAtMost}
 use Rattle.gadget_model.specs.Circuit.{Circuit}
 use Rattle.gadget_tree.specs.File.{FileSays}
-use Rattle.gadget_headers.specs.declared.file_error.FileError.{FileError}
-use Rattle.gadget_headers.specs.declared.file_error.FileError.TheVariants as files
+use Rattle.gadget_text.specs.declared.file_error.FileError.{FileError}
+use Rattle.gadget_text.specs.declared.file_error.FileError.TheVariants as files
 use Rattle.wire_table.specs.Refusals.{Refuses}
 use Rattle.wire_table.specs.declared.wire_error.WireError.{WireError}
 use Rattle.wire_table.specs.declared.wire_error.WireError.TheVariants as wires

@@ -4,7 +4,7 @@ use Rattle.std.specs.Prelude.{◌≢◌, Result, IfSome}
 use Rattle.mask_bytes.specs.Flow.{IsLonger}
 use Rattle.gadget_model.specs.Circuit.{Circuit}
 use Rattle.gadget_model.specs.Classes.{IsInClass, Fault, too_wide, random_product, degree, IsFirstFault}
-use Rattle.gadget_headers.specs.declared.file_error.FileError.{FileError}
+use Rattle.gadget_text.specs.declared.file_error.FileError.{FileError}
 use Rattle.gadget_tree.specs.File.{FileSays}
 use Rattle.gadget_tree.proofs.OneReading.{one_reading}
 use Rattle.wire_table.specs.Refusals.{Refuses}

@@ -1,8 +1,8 @@
 -- The statuses of the errors of the layers below. Want of memory is one status, wherever it came from.
 use Rattle.mask_bytes.specs.declared.error.ReadError.{ReadError}
 use Rattle.mask_bytes.specs.declared.error.ReadError.TheVariants as reads
-use Rattle.gadget_headers.specs.declared.file_error.FileError.{FileError}
-use Rattle.gadget_headers.specs.declared.file_error.FileError.TheVariants as files
+use Rattle.gadget_text.specs.declared.file_error.FileError.{FileError}
+use Rattle.gadget_text.specs.declared.file_error.FileError.TheVariants as files
 use Rattle.wire_table.specs.declared.wire_error.WireError.{WireError}
 use Rattle.wire_table.specs.declared.wire_error.WireError.TheVariants as wires
 use Rattle.mask_check.specs.declared.status.Status.{Status}

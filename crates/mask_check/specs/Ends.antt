@@ -9,7 +9,7 @@ use Rattle.tuple_model.specs.Tuples.{IsTuple, tuples}
 use Rattle.tuple_model.specs.Minimal.{IsAnswer}
 use Rattle.notions.specs.Ni.{Fails}
 use Rattle.gadget_tree.specs.File.{FileSays}
-use Rattle.gadget_headers.specs.declared.file_error.FileError.TheVariants as files
+use Rattle.gadget_text.specs.declared.file_error.FileError.TheVariants as files
 use Rattle.wire_table.specs.Refusals.{Refuses}
 use Rattle.wire_table.specs.declared.wire_error.WireError.TheVariants as wires
 use Rattle.mask_check.specs.declared.status.Status.{Status}

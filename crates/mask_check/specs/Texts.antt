@@ -3,10 +3,10 @@
 use Rattle.std.specs.Prelude.{ℕ, List, [], ◌++◌, codes, decimal}
 use Rattle.gadget_text.specs.declared.token.Header.{Header}
 use Rattle.gadget_text.specs.declared.token.Header.TheVariants as header
-use Rattle.gadget_headers.specs.declared.file_error.FileError.{FileError}
-use Rattle.gadget_headers.specs.declared.file_error.FileError.TheVariants as file_error
-use Rattle.gadget_headers.specs.declared.file_error.What.{What}
-use Rattle.gadget_headers.specs.declared.file_error.What.TheVariants as what
+use Rattle.gadget_text.specs.declared.file_error.FileError.{FileError}
+use Rattle.gadget_text.specs.declared.file_error.FileError.TheVariants as file_error
+use Rattle.gadget_text.specs.declared.file_error.What.{What}
+use Rattle.gadget_text.specs.declared.file_error.What.TheVariants as what
 use Rattle.wire_table.specs.declared.wire_error.WireError.{WireError}
 use Rattle.wire_table.specs.declared.wire_error.WireError.TheVariants as wire_error
 use Rattle.mask_check.specs.declared.status.UsageKind.{UsageKind}
