@@ -1,5 +1,5 @@
 -- A valid check completes, unless reading, writing or memory fails.
-use Rattle.std.proofs.Common.{◌≡◌, ℕ, ◌≤◌, List, length, Option, Some, Ok, Err, subst, sym, arith, refl, inl, inr}
+use Rattle.std.proofs.Common.{◌≡◌, ℕ, List, Option, Ok, Err, subst, arith, refl, inl, inr}
 use Rattle.std.specs.Prelude.{◌≢◌, Result, IfSome}
 use Rattle.mask_bytes.specs.Flow.{IsLonger}
 use Rattle.gadget_model.specs.Circuit.{Circuit}

@@ -16,8 +16,8 @@ returns-in_err-write_whole-clause-ends g c =
           bytes = c.in_ok-bytes.bytes.items;
           t = c.in_ok-t.t;
           gadget = c.in_ok-gadget.gadget;
-          read = record { whole = c.in_ok-bytes.ensures.whole; end = c.in_ok-bytes.ensures.end; few = search rules };
-          accepted = record { asked = search rules; file = search rules; in_class = search rules };
+          read = search rules;
+          accepted = search rules;
           answers = search rules;
         },
         c.in_err-write_whole.ensures.prefix,
@@ -30,7 +30,7 @@ returns-in_err-gadget-clause-ends g c =
     rw (p.1) (Ends-file (map string_bytes c.args.words.now)
     (run_of g.S.Source.left g.S.Source.faults g.K.Sink.written g.K.Sink.faults c.args.source.now c.read_whole.new.source c.args.sink.now c.args.sink.now)
     c.in_ok-bytes.bytes.items (c.in_ok-t.t, search rules)
-    (record { whole = c.in_ok-bytes.ensures.whole; end = c.in_ok-bytes.ensures.end; few = search rules }) c.read_whole.ensures.rest refl
+    (search rules) c.read_whole.ensures.rest refl
     c.in_err-gadget.field-0.0 p.0 p.2 (search rules))
 
 pub returns-in_err-table-clause-ends : goal.returns-in_err-table-clause-ends
@@ -39,7 +39,7 @@ returns-in_err-table-clause-ends g c =
     rw (p.1) (Ends-table (map string_bytes c.args.words.now)
     (run_of g.S.Source.left g.S.Source.faults g.K.Sink.written g.K.Sink.faults c.args.source.now c.read_whole.new.source c.args.sink.now c.args.sink.now)
     c.in_ok-bytes.bytes.items (c.in_ok-t.t, search rules)
-    (record { whole = c.in_ok-bytes.ensures.whole; end = c.in_ok-bytes.ensures.end; few = search rules }) c.read_whole.ensures.rest refl
+    (search rules) c.read_whole.ensures.rest refl
     c.in_ok-gadget.gadget c.in_err-table.field-0.0 p.0 p.2 (search rules) (search rules))
 
 pub returns-in_err-answer-clause-ends : goal.returns-in_err-answer-clause-ends
@@ -48,7 +48,7 @@ returns-in_err-answer-clause-ends g c =
     rw (p.1) (Ends-memory (map string_bytes c.args.words.now)
     (run_of g.S.Source.left g.S.Source.faults g.K.Sink.written g.K.Sink.faults c.args.source.now c.read_whole.new.source c.args.sink.now c.args.sink.now)
     c.in_ok-bytes.bytes.items (c.in_ok-t.t, search rules)
-    (record { whole = c.in_ok-bytes.ensures.whole; end = c.in_ok-bytes.ensures.end; few = search rules }) c.read_whole.ensures.rest refl
+    (search rules) c.read_whole.ensures.rest refl
     p.0 p.2)
 
 pub returns-clause-ends : goal.returns-clause-ends
@@ -58,8 +58,8 @@ returns-clause-ends g c = (
     bytes = c.in_ok-bytes.bytes.items;
     t = c.in_ok-t.t;
     gadget = c.in_ok-gadget.gadget;
-    read = record { whole = c.in_ok-bytes.ensures.whole; end = c.in_ok-bytes.ensures.end; few = search rules };
-    accepted = record { asked = search rules; file = search rules; in_class = search rules };
+    read = search rules;
+    accepted = search rules;
     answers = search rules;
   },
   search rules,
