@@ -42,7 +42,7 @@ module _ {S K : Type 0} (words : List (List ℕ)) (run : Run S K) (bytes : List 
 
   -- the file is refused for its first offence
   offence : (error : FileError) → error ≢ files.OutOfMemory → (error ≢ files.OutOfMemory → FileSays bytes (Err error)) → Ends words run (statuses.File error)
-  offence error other refused = (asked, other, (bytes, read, refused other), kept)
+  offence error other refused = (asked, (other, bytes, read, refused other), kept)
 
   file_error : (error : FileError) → (error ≢ files.OutOfMemory → FileSays bytes (Err error)) → Ends words run (status_of_file error)
   file_error (files.NotText line) refused = offence (files.NotText line) (λ e. absurd (cc)) refused
@@ -62,7 +62,7 @@ module _ {S K : Type 0} (words : List (List ℕ)) (run : Run S K) (bytes : List 
   Ends-file error status e refused = subst (Ends words run) (sym e) (file_error error refused)
 
   unfit : (g : Circuit) (error : WireError) → error ≢ wires.OutOfMemory → FileSays bytes (Ok g) → Refuses g error → Ends words run (statuses.Wires error)
-  unfit g error other says refused = (asked, other, (bytes, g, read, says, refused), kept)
+  unfit g error other says refused = (asked, (other, bytes, g, read, says, refused), kept)
 
   wire_error : (g : Circuit) (error : WireError) → FileSays bytes (Ok g) → Refuses g error → Ends words run (status_of_wires error)
   wire_error g (wires.TooWide var line) says refused = unfit g (wires.TooWide var line) (λ e. absurd (cc)) says refused

@@ -46,13 +46,13 @@ module _ {S K : Type 0} (words : List (List ℕ)) (run : Run S K) (valid : IsVal
   IsVerdictIfMemoryLasts-from_ends statuses.No h = inr (inl refl)
   IsVerdictIfMemoryLasts-from_ends (statuses.Usage kind) h = absurd (ok_err valid.t kind (words_ask words) valid.accepted.asked h.0)
   IsVerdictIfMemoryLasts-from_ends (statuses.File error) h =
-      absurd (ok_err valid.gadget error (Ok valid.gadget) refl (same h.2.0 (Err error) h.2.1 h.2.2))
+      absurd (ok_err valid.gadget error (Ok valid.gadget) refl (same h.1.1 (Err error) h.1.2 h.1.3))
   IsVerdictIfMemoryLasts-from_ends (statuses.Wires error) h =
-      let g = h.2.1 in
-      let is = ok_ok valid.gadget g (Ok valid.gadget) refl (same h.2.0 (Ok g) h.2.2 h.2.3) in
-      absurd (no_refusal g error (subst IsInClass is valid.accepted.in_class) h.1 h.2.4)
+      let g = h.1.2 in
+      let is = ok_ok valid.gadget g (Ok valid.gadget) refl (same h.1.1 (Ok g) h.1.3 h.1.4) in
+      absurd (no_refusal g error (subst IsInClass is valid.accepted.in_class) h.1.0 h.1.5)
   IsVerdictIfMemoryLasts-from_ends statuses.TooLong h =
-      let longer = subst (λ (o : Option (List ℕ)). IsLonger o most_file_bytes) valid.told h.1 in
+      let longer = subst (λ (o : Option (List ℕ)). IsLonger o most_file_bytes) valid.told h.1.0 in
       let few = valid.few in
       absurd (omega arith)
   IsVerdictIfMemoryLasts-from_ends statuses.ReadFault h = absurd (valid.reads h.1)

@@ -9,11 +9,13 @@ use Rattle.tuple_model.specs.Tuples.{IsTuple, tuples}
 use Rattle.tuple_model.specs.Minimal.{IsAnswer}
 use Rattle.notions.specs.Ni.{Fails}
 use Rattle.gadget_tree.specs.File.{FileSays}
+use Rattle.gadget_text.specs.declared.file_error.FileError.{FileError}
 use Rattle.gadget_text.specs.declared.file_error.FileError.TheVariants as files
 use Rattle.wire_table.specs.Refusals.{Refuses}
+use Rattle.wire_table.specs.declared.wire_error.WireError.{WireError}
 use Rattle.wire_table.specs.declared.wire_error.WireError.TheVariants as wires
 use Rattle.mask_check.specs.declared.status.Status.{Status}
-use Rattle.mask_check.specs.declared.status.Status.TheVariants as statuses
+use Rattle.mask_check.specs.declared.status.Status.TheVariants.{Yes, No, Usage, File, Wires, TooLong, ReadFault, WriteFault, OutOfMemory}
 use Rattle.mask_check.specs.Limits.{most_file_bytes}
 use Rattle.mask_check.specs.Words.{words_ask}
 use Rattle.mask_check.specs.Report.{report}
@@ -58,7 +60,7 @@ pub record Answers (gadget : Circuit) (t : ℕ) (secure : Bool) (text : List ℕ
   pub none_fails : IsTrue secure ↔
       ((probes : List ℕ) → IsTuple (length gadget.variables) t probes → Fails gadget t probes → ⊥)
 
--- All that was left of the source was read, no more than a file may have; where the source tells its bytes, it is these.
+-- All that was left of the source was read, no more than a file may have; where the source tells, it is these bytes.
 pub record ReadsAll {S K : Type 0} (run : Run S K) (bytes : List ℕ) : Type 0 where
   pub whole : IfSome (run.left run.source) (λ left. bytes ≡ left)
   pub end : IsAtEnd (run.left run.source_after)
@@ -109,28 +111,40 @@ Writes run text = run.written run.sink_after ≡ append_known (run.written run.s
 abbrev pub WritesPrefix : {S K : Type 0} → Run S K → List ℕ → Type 0
 WritesPrefix run text = AppendsProperPrefix (run.written run.sink) (run.written run.sink_after) text
 
--- The check reached this verdict with a text, and wrote it.
+-- The file that was read is refused for this, its first offence. Want of memory is none.
+abbrev pub RefusesFile : {S K : Type 0} → Run S K → FileError → Type 0
+RefusesFile run error =
+    (error ≢ files.OutOfMemory) × (bytes : List ℕ) × ReadsAll run bytes × FileSays bytes (Err error)
+
+-- The gadget that was read is refused for this, its first variable outside the class. Want of memory is no reason.
+abbrev pub RefusesGadget : {S K : Type 0} → Run S K → WireError → Type 0
+RefusesGadget run error =
+    (error ≢ wires.OutOfMemory)
+    × (bytes : List ℕ) × (gadget : Circuit) × ReadsAll run bytes × FileSays bytes (Ok gadget) × Refuses gadget error
+
+-- more is left than a file may have, where the source tells that, and one byte more was read
+abbrev pub ReadsTooMuch : {S K : Type 0} → Run S K → Type 0
+ReadsTooMuch run = IsLonger (run.left run.source) most_file_bytes × Takes run (most_file_bytes + 1)
+
+-- the check reached this verdict with a text, and wrote it
 abbrev pub Completes : {S K : Type 0} → List (List ℕ) → Run S K → Bool → Type 0
 Completes words run secure = (text : List ℕ) × Reaches words run secure text × Writes run text
 
+-- the check reached some verdict with a text, and wrote a prefix of it
+abbrev pub BreaksOff : {S K : Type 0} → List (List ℕ) → Run S K → Type 0
+BreaksOff words run = (secure : Bool) × (text : List ℕ) × Reaches words run secure text × WritesPrefix run text
+
 -- How a check ends: a line for each status, in the order of docs/REPORT.md.
 abbrev pub Ends : {S K : Type 0} → List (List ℕ) → Run S K → Status → Type 0
-Ends words run statuses.Yes = Completes words run true
-Ends words run statuses.No = Completes words run false
-Ends words run (statuses.Usage kind) = (words_ask words ≡ Err kind) × ReadsNothing run × WritesNothing run
-Ends words run (statuses.File error) =
-    IsAsked words × (error ≢ files.OutOfMemory)
-    × ((bytes : List ℕ) × ReadsAll run bytes × FileSays bytes (Err error)) × WritesNothing run
-Ends words run (statuses.Wires error) =
-    IsAsked words × (error ≢ wires.OutOfMemory)
-    × ((bytes : List ℕ) × (g : Circuit) × ReadsAll run bytes × FileSays bytes (Ok g) × Refuses g error) × WritesNothing run
-Ends words run statuses.TooLong =
-    IsAsked words × IsLonger (run.left run.source) most_file_bytes × Takes run (most_file_bytes + 1) × WritesNothing run
-Ends words run statuses.ReadFault =
-    IsAsked words × CountsReadFault run × TakesAtMost run most_file_bytes × WritesNothing run
-Ends words run statuses.WriteFault =
-    CountsWriteFault run × ((secure : Bool) × (text : List ℕ) × Reaches words run secure text × WritesPrefix run text)
-Ends words run statuses.OutOfMemory = IsAsked words × TakesAtMost run (most_file_bytes + 1) × WritesNothing run
+Ends words run Yes = Completes words run true
+Ends words run No = Completes words run false
+Ends words run (Usage kind) = (words_ask words ≡ Err kind) × ReadsNothing run × WritesNothing run
+Ends words run (File error) = IsAsked words × RefusesFile run error × WritesNothing run
+Ends words run (Wires error) = IsAsked words × RefusesGadget run error × WritesNothing run
+Ends words run TooLong = IsAsked words × ReadsTooMuch run × WritesNothing run
+Ends words run ReadFault = IsAsked words × CountsReadFault run × TakesAtMost run most_file_bytes × WritesNothing run
+Ends words run WriteFault = CountsWriteFault run × BreaksOff words run
+Ends words run OutOfMemory = IsAsked words × TakesAtMost run (most_file_bytes + 1) × WritesNothing run
 
 -- A valid check: the source tells the bytes of a file that is accepted, and neither a read nor a write fails.
 pub record IsValid {S K : Type 0} (words : List (List ℕ)) (run : Run S K) : Type 0 where
@@ -145,4 +159,4 @@ pub record IsValid {S K : Type 0} (words : List (List ℕ)) (run : Run S K) : Ty
 
 -- a verdict, unless memory ran out
 abbrev pub IsVerdictIfMemoryLasts : Status → Type 0
-IsVerdictIfMemoryLasts status = (status ≡ statuses.Yes) ⊎ (status ≡ statuses.No) ⊎ (status ≡ statuses.OutOfMemory)
+IsVerdictIfMemoryLasts status = (status ≡ Yes) ⊎ (status ≡ No) ⊎ (status ≡ OutOfMemory)

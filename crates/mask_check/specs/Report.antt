@@ -20,7 +20,8 @@ gadget_line g =
 -- how many items there are, of how many of them a set has at most, and how many sets there are
 unfoldable pub space_line : ℕ → ℕ → ℕ → List ℕ
 space_line items size sets =
-    codes "space items " ++ decimal items ++ codes " size " ++ decimal size ++ codes " tuples " ++ decimal sets ++ newline
+    codes "space items " ++ decimal items ++ codes " size " ++ decimal size
+    ++ codes " tuples " ++ decimal sets ++ newline
 
 -- The head: the check, the gadget, and the sets of probes on its variables that are asked about.
 abbrev pub head : Circuit → ℕ → ℕ → List ℕ

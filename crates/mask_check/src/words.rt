@@ -5,8 +5,8 @@ ghost use Rattle.mask_check.specs.Words.{words_ask, order_of};
 
 use crate::status::UsageKind;
 
-/// The order that the command line asks for. Its words are the program's name, the task `ni` and an order, which is `0`,
-/// `1` or `2`; otherwise the answer is the first of these three that is wrong.
+/// The order that the command line asks for. Its words are the program's name, the task `ni` and an order, which is
+/// `0`, `1` or `2`; otherwise the answer is the first of these three that is wrong.
 pub fn settings(words: &[String]) -> Result<u8, UsageKind>
     ensures asked { result ≡ words_ask (map string_bytes words.now) }
     ensures few { IfOk result (λ t. t ≤ 2) }
