@@ -12,7 +12,7 @@ use Rattle.wire_table.specs.declared.wire_error.WireError.{WireError}
 use Rattle.wire_table.specs.declared.wire_error.WireError.TheVariants as wires
 use Rattle.mask_check.specs.declared.status.Status.{Status}
 use Rattle.mask_check.specs.declared.status.Status.TheVariants as statuses
-use Rattle.mask_check.specs.Limits.{most_file_bytes}
+use Rattle.gadget_text.specs.Limits.{most_file_bytes}
 use Rattle.mask_check.specs.Causes.{status_of_file, status_of_wires}
 use Rattle.mask_check.specs.Ends.{Run, ReadsAll, IsAsked, TakesAtMost, WritesNothing, Ends}
 

@@ -16,7 +16,7 @@ use Rattle.wire_table.specs.declared.wire_error.WireError.{WireError}
 use Rattle.wire_table.specs.declared.wire_error.WireError.TheVariants as wires
 use Rattle.mask_check.specs.declared.status.Status.{Status}
 use Rattle.mask_check.specs.declared.status.Status.TheVariants.{Yes, No, Usage, File, Wires, TooLong, ReadFault, WriteFault, OutOfMemory}
-use Rattle.mask_check.specs.Limits.{most_file_bytes}
+use Rattle.gadget_text.specs.Limits.{most_file_bytes}
 use Rattle.mask_check.specs.Words.{words_ask}
 use Rattle.mask_check.specs.Report.{report}
 

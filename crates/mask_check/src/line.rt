@@ -7,12 +7,12 @@ use arrayvec::ArrayString;
 use std::marker::Model;
 
 /// How many bytes a line may have.
-const LINE_LIMIT: usize = 120;
+const MOST_LINE_BYTES: usize = 120;
 
 /// A text of at most 120 bytes, which takes no memory beyond its own. Contracts see its bytes.
 #[derive(Debug, Drop)]
 pub struct Line {
-    text: ArrayString<LINE_LIMIT>,
+    text: ArrayString<MOST_LINE_BYTES>,
 }
 
 impl Model for Line {

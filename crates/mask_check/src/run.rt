@@ -8,13 +8,11 @@ ghost use Rattle.mask_check.specs.Ends.{run_of, Completes, Ends, IsValid, IsVerd
 use crate::answer::decide;
 use crate::status::Status;
 use crate::words::settings;
+use gadget_text::MOST_FILE_BYTES;
 use gadget_tree::read_gadget;
 use mask_bytes::{Sink, Source, read_whole, write_whole};
 use std::alloc::Global;
 use wire_table::WireTable;
-
-/// How many bytes a gadget file may have.
-const FILE_LIMIT: usize = 1_048_576;
 
 /// Checks the gadget file that `source` gives, as the words of the command line ask, and writes the report to `sink`.
 pub fn check<S: Source, K: Sink>(
@@ -60,7 +58,7 @@ fn verdict<S: Source, K: Sink>(
     ensures write_faultless { result ≢ Err Status.WriteFault → K.faults sink.new ≡ K.faults sink.old }
 {
     let t = settings(words)?;
-    let bytes = read_whole(alloc, source, FILE_LIMIT)?;
+    let bytes = read_whole(alloc, source, MOST_FILE_BYTES)?;
     let gadget = read_gadget(alloc, &bytes)?;
     let table = WireTable::make(alloc, &gadget)?;
     let answer = decide(alloc, &gadget, &table, t)?;
