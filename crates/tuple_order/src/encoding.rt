@@ -36,6 +36,7 @@ impl Tuple {
     /// The tuple with a code.
     pub fn of_code(code: u64) -> Option<Tuple>
         ensures tuple { IfSome result (λ t. code_of t ≡ code) }
+        ensures fits { IfSome result (IsTuple most_items most_size) }
         ensures none { IfNone result ((t : List ℕ) → IsTuple most_items most_size t → code_of t ≡ code → ⊥) }
     {
         let size = (code / ONE_MORE % 256) as usize;

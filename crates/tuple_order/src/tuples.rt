@@ -49,6 +49,7 @@ impl Tuple {
     /// The tuple of these items, where they rise strictly and are few and small enough.
     pub fn from_items(items: &[u16]) -> Option<Tuple>
         ensures tuple { IfSome result (λ t. t ≡ items.now) }
+        ensures fits { IfSome result (IsTuple most_items most_size) }
         ensures none { IfNone result (IsTuple most_items most_size items.now → ⊥) }
     {
         if items.len() > usize::from(MOST_SIZE) {
