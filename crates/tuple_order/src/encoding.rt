@@ -21,7 +21,8 @@ const DIGIT_BITS: u32 = 9;
 impl Tuple {
     /// A word that orders as the tuple does.
     pub fn code(&self) -> u64
-        ensures { result ≡ code_of self.now }
+        ensures code { result ≡ code_of self.now }
+        ensures tuple { IsTuple most_items most_size self.now }
     {
         let items = self.items();
         let mut code = EMPTY + items.len() as u64 * ONE_MORE;

@@ -26,4 +26,4 @@ returns-else-code-clause-none c = λ t h e.
     let zeros : List ℕ = replicate 6 0 in
     let r = first-read size c.args.code (take size zeros) c.read_digits.new.items (drop size zeros) (length-take-le size zeros (omega arith)) c.read_digits.ensures
     ∙ items-from_code t c.args.code size h e refl in
-    c.if-code.false (c.code.ensures ∙ ap code_of (c.in_ok-t.ensures.tuple ∙ r) ∙ e)
+    c.if-code.false (c.code.ensures.code ∙ ap code_of (c.in_ok-t.ensures.tuple ∙ r) ∙ e)
