@@ -10,3 +10,4 @@ pub mod Raising
 pub mod Ranking
 pub mod Stepping
 pub mod Walk
+mod Examples

@@ -1,32 +1,7 @@
-//! The tuples of at most two of five items, and counts that were worked out apart from this code.
+//! The tuples of at most two of five items, and counts and codes that were worked out apart from this code.
 
-ghost use Rattle.tuple_model.specs.Tuples.{IsTuple};
-
-use crate::{Tuple, count, next, subset};
+use crate::{Tuple, count, is_subset, next, rank, subset, unrank};
 use std::test::Fail;
-
-// The tuple with a rank, by so many steps from the empty one.
-fn tuple_at(rank: u8) -> Tuple
-    ensures { IsTuple 5 2 result }
-{
-    let mut t = Tuple::empty();
-    for _ in 0..rank {
-        next(5, 2, &mut t);
-    }
-    t
-}
-
-#[test]
-fn walks_from_the_empty_tuple_to_the_last(rt: HostRuntime) -> Result<(), Fail> {
-    assert_eq!(rt; tuple_at(0).items(), [].as_slice());
-    assert_eq!(rt; tuple_at(5).items(), [4].as_slice());
-    assert_eq!(rt; tuple_at(6).items(), [0, 1].as_slice());
-    let mut last = tuple_at(15);
-    assert_eq!(rt; last.items(), [3, 4].as_slice());
-    assert!(rt; !next(5, 2, &mut last));
-    assert_eq!(rt; last.items(), [3, 4].as_slice());
-    Ok(())
-}
 
 #[test]
 fn counts_tuples(rt: HostRuntime) -> Result<(), Fail> {
@@ -38,9 +13,41 @@ fn counts_tuples(rt: HostRuntime) -> Result<(), Fail> {
 }
 
 #[test]
-fn keeps_the_second_item(rt: HostRuntime) -> Result<(), Fail> {
-    let pair = tuple_at(15);
+fn finds_tuples_by_rank(rt: HostRuntime) -> Result<(), Fail> {
+    assert_eq!(rt; unrank(5, 2, 0).items(), [].as_slice());
+    assert_eq!(rt; unrank(5, 2, 5).items(), [4].as_slice());
+    assert_eq!(rt; unrank(5, 2, 6).items(), [0, 1].as_slice());
+    let mut last = unrank(5, 2, 15);
+    assert_eq!(rt; last.items(), [3, 4].as_slice());
+    assert_eq!(rt; rank(5, 2, &last), 15);
+    assert!(rt; !next(5, 2, &mut last));
+    assert_eq!(rt; last.items(), [3, 4].as_slice());
+    Ok(())
+}
+
+#[test]
+fn codes_tuples(rt: HostRuntime) -> Result<(), Fail> {
+    let pair = unrank(5, 2, 6);
+    assert_eq!(rt; pair.code(), 0x4080_2020_0000_0000);
+    let codes = pair.subset_codes();
+    assert_eq!(rt; codes[0], 0x4000_0000_0000_0000);
+    assert_eq!(rt; codes[1], 0x4040_2000_0000_0000);
+    assert_eq!(rt; codes[2], 0x4040_4000_0000_0000);
+    assert_eq!(rt; codes[3], 0x4080_2020_0000_0000);
+    assert!(rt; Tuple::of_code(0x4080_2020_0000_0000).is_some());
+    assert!(rt; Tuple::of_code(0x4080_2020_0000_0001).is_none());
+    assert!(rt; Tuple::from_items(&[0, 1]).is_some());
+    assert!(rt; Tuple::from_items(&[1, 1]).is_none());
+    Ok(())
+}
+
+#[test]
+fn takes_subsets(rt: HostRuntime) -> Result<(), Fail> {
+    let pair = unrank(5, 2, 15);
     assert!(rt; pair.items().len() == 2);
-    assert_eq!(rt; subset(2, &pair).items(), [4].as_slice());
+    let second = subset(2, &pair);
+    assert_eq!(rt; second.items(), [4].as_slice());
+    assert!(rt; is_subset(&second, &pair));
+    assert!(rt; !is_subset(&pair, &second));
     Ok(())
 }
