@@ -1,5 +1,5 @@
 -- Sets of items as strictly rising lists of item numbers, called tuples; their order, the list of all, and their subsets.
-use Rattle.std.specs.Prelude.{◌≡◌, ℕ, zero, suc, ◌%◌, ◌/◌, ◌<◌, ◌≤◌, ◌⊎◌, ◌==◌, if◌then◌else◌, List, [], ◌∷◌, ◌++◌, map, length, Contains}
+use Rattle.std.specs.Prelude.{◌≡◌, ℕ, zero, suc, ◌%◌, ◌/◌, ◌<◌, ◌≤◌, ◌⊎◌, ◌==◌, if◌then◌else◌, List, [], ◌∷◌, ◌++◌, map, length, slice_get, Some, Contains}
 
 -- the numbers rise strictly, from low on and below high
 abbrev pub IsRising : ℕ → ℕ → List ℕ → Type 0
@@ -27,10 +27,14 @@ rising zero room low = [] ∷ []
 rising (suc size) zero low = []
 rising (suc size) (suc room) low = map (λ t. low ∷ t) (rising size room (suc low)) ++ rising (suc size) room (suc low)
 
--- all tuples of at most `size` of the items, in order; the rank of a tuple is its place in this list
+-- all tuples of at most `size` of the items, in order
 abbrev pub tuples : ℕ → ℕ → List (List ℕ)
 tuples items zero = rising zero items 0
 tuples items (suc size) = tuples items size ++ rising (suc size) items 0
+
+-- the rank of a tuple is its place in this list
+abbrev pub HasRank : ℕ → ℕ → List ℕ → ℕ → Type 0
+HasRank items size t rank = slice_get (tuples items size) rank ≡ Some t
 
 -- the subset of a tuple with a number: it keeps the item at place j exactly where bit j of the number is set
 abbrev pub subset : ℕ → List ℕ → List ℕ

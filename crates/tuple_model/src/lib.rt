@@ -1,9 +1,9 @@
 //! Sets of items, their order, and the minimal ones among those that fail: definitions and their laws.
 #![tactic(auto)]
 
-ghost use Rattle.std.specs.Prelude.{◌≡◌, ◌↔◌, ◌⊎◌, ◌^◌, ◌<◌, ◌≤◌, ℕ, suc, List, [], Some, length, slice_get, AllPairs, Contains};
+ghost use Rattle.std.specs.Prelude.{◌≡◌, ◌↔◌, ◌⊎◌, ◌^◌, ◌<◌, ◌≤◌, ℕ, suc, List, [], length, AllPairs, Contains};
 ghost use Rattle.tuple_model.specs.Limits.{most_items, most_size};
-ghost use Rattle.tuple_model.specs.Tuples.{IsTuple, IsRising, IsBefore, IsSubset, tuples, subset};
+ghost use Rattle.tuple_model.specs.Tuples.{IsTuple, IsRising, IsBefore, IsSubset, HasRank, tuples, subset};
 ghost use Rattle.tuple_model.specs.Minimal.{IsMinimal, IsAnswer};
 ghost use Rattle.tuple_model.specs.Antichains.{Covers, IsAntichain, CoversSame, CoversFailing, Adds, CoversMore};
 
@@ -18,15 +18,14 @@ pub fn tuples_law()
     ensures ordered { (items size : ℕ) → AllPairs IsBefore (tuples items size) }
 {}
 
-/// A tuple has one rank, its place in the list of all, and tuples are ordered as their ranks. A rank below the number of
-/// tuples of at most so many items is that of a tuple of at most so many.
+/// A tuple has one rank, and tuples are ordered as their ranks. A rank below the number of tuples of at most so many
+/// items is that of a tuple of at most so many.
 pub fn rank_law()
-    ensures once { (items size i j : ℕ) (t : List ℕ) →
-        slice_get (tuples items size) i ≡ Some t → slice_get (tuples items size) j ≡ Some t → i ≡ j }
-    ensures ordered { (items size i j : ℕ) (s t : List ℕ) →
-        slice_get (tuples items size) i ≡ Some s → slice_get (tuples items size) j ≡ Some t → IsBefore s t ↔ i < j }
-    ensures short { (items size most rank : ℕ) (t : List ℕ) →
-        slice_get (tuples items size) rank ≡ Some t → rank < length (tuples items most) → length t ≤ most }
+    ensures once { (items size i j : ℕ) (t : List ℕ) → HasRank items size t i → HasRank items size t j → i ≡ j }
+    ensures ordered { (items size i j : ℕ) (s t : List ℕ) → HasRank items size s i → HasRank items size t j →
+        IsBefore s t ↔ i < j }
+    ensures short { (items size most rank : ℕ) (t : List ℕ) → HasRank items size t rank →
+        rank < length (tuples items most) → length t ≤ most }
 {}
 
 /// The subsets of a tuple by number are the tuples all of whose items it has, each once; the last number gives the

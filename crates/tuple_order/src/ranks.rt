@@ -2,24 +2,25 @@
 
 ghost use Rattle.std.specs.Prelude.{◌≡◌, ℕ, ◌+◌, ◌<◌, ◌≤◌, Some, length, slice_get};
 ghost use Rattle.tuple_model.specs.Limits.{most_items, most_size};
-ghost use Rattle.tuple_model.specs.Tuples.{IsTuple, rising, tuples};
+ghost use Rattle.tuple_model.specs.Tuples.{IsTuple, HasRank, rising, tuples};
 
 use crate::counts::{count, count_of_fewer, count_of_size};
 use crate::tuples::Tuple;
 
-/// Some ranks in a row, from the first to before the last.
+/// The ranks from `from` to before `to`.
 #[derive(Clone, Copy, Debug, PartialEq, Eq, Drop)]
 pub struct Range {
     pub from: u64,
     pub to: u64,
 }
 
-/// The tuple with a rank.
+/// The tuple with a rank, of those of at most `size` of the items numbered below `items`. It undoes `rank`, since a
+/// tuple has one rank (`tuple_model::rank_law`).
 pub fn unrank(items: u16, size: u8, rank: u64) -> Tuple
     requires items_at_most { items ≤ most_items }
     requires size_at_most { size ≤ most_size }
     requires rank { rank < length (tuples items size) }
-    ensures at { slice_get (tuples items size) rank ≡ Some result }
+    ensures rank { HasRank items size result rank }
     ensures tuple { IsTuple items size result }
 {
     let of_size = size_at(items, size, rank);
@@ -69,12 +70,12 @@ fn tuple_at(items: u16, size: u8, place: u64) -> Tuple
     t
 }
 
-/// The rank of a tuple: how many come before it.
+/// The rank of a tuple among those of at most `size` of the items numbered below `items`: how many come before it.
 pub fn rank(items: u16, size: u8, t: &Tuple) -> u64
     requires items_at_most { items ≤ most_items }
     requires size_at_most { size ≤ most_size }
     requires fits { IsTuple items size t.now }
-    ensures at { slice_get (tuples items size) result ≡ Some t.now }
+    ensures rank { HasRank items size t.now result }
     ensures below { result < length (tuples items size) }
 {
     let chosen = t.items();

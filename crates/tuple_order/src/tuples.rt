@@ -1,8 +1,8 @@
 //! Tuples of at most 6 items, held in place.
 
-ghost use Rattle.std.specs.Prelude.{◌≡◌, ◌↔◌, ℕ, zero, suc, ◌+◌, ◌^◌, ◌<◌, ◌≤◌, false, List, [], ◌∷◌, ◌++◌, length, IsTrue, IfSome, IfNone, Some, None, slice_get};
+ghost use Rattle.std.specs.Prelude.{◌≡◌, ◌↔◌, ℕ, zero, suc, ◌+◌, ◌^◌, ◌<◌, ◌≤◌, false, List, [], ◌∷◌, ◌++◌, length, IsTrue, IfSome, IfNone};
 ghost use Rattle.tuple_model.specs.Limits.{most_items, most_size};
-ghost use Rattle.tuple_model.specs.Tuples.{IsTuple, IsSubset, tuples, subset as subset_of};
+ghost use Rattle.tuple_model.specs.Tuples.{IsTuple, IsSubset, HasRank, tuples, subset as subset_of};
 
 use crate::steps::{number_from, raise};
 use std::marker::Model;
@@ -22,6 +22,7 @@ pub struct Tuple {
 
 impl Model for Tuple {
     ghost use Rattle.std.specs.Prelude.{ℕ, ◌-◌, List, length, ◌++◌, take, replicate};
+    ghost use Rattle.tuple_model.specs.Limits.{most_size};
     ghost use Rattle.tuple_order.specs.Held.{IsHeld, length-held, places-held};
 
     ghost Value = { List ℕ };
@@ -30,7 +31,7 @@ impl Model for Tuple {
 
     ghost invariant = { λ t. IsHeld t.items t.size };
 
-    ghost inverse = { λ t. record { items = t ++ replicate (6 - length t) 0; size = length t } };
+    ghost inverse = { λ t. record { items = t ++ replicate (most_size - length t) 0; size = length t } };
 
     ghost inverse_ok = { λ t h i. record { items = places-held t.items t.size h i; size = length-held t.items t.size h i } };
 }
@@ -48,8 +49,8 @@ impl Tuple {
 
     /// The tuple of these items, where they rise strictly and are few and small enough.
     pub fn from_items(items: &[u16]) -> Option<Tuple>
-        ensures tuple { IfSome result (λ t. t ≡ items.now) }
-        ensures fits { IfSome result (IsTuple most_items most_size) }
+        ensures items { IfSome result (λ t. t ≡ items.now) }
+        ensures tuple { IfSome result (IsTuple most_items most_size) }
         ensures none { IfNone result (IsTuple most_items most_size items.now → ⊥) }
     {
         if items.len() > usize::from(MOST_SIZE) {
@@ -91,8 +92,8 @@ pub fn next(items: u16, size: u8, t: &mut Tuple) -> bool
     requires items_at_most { items ≤ most_items }
     requires size_at_most { size ≤ most_size }
     requires fits { IsTuple items size t.old }
-    ensures next { IsTrue result → (rank : ℕ) → slice_get (tuples items size) rank ≡ Some t.old → slice_get (tuples items size) (suc rank) ≡ Some t.new }
-    ensures last { result ≡ false → (rank : ℕ) → slice_get (tuples items size) rank ≡ Some t.old → length (tuples items size) ≡ suc rank }
+    ensures next { IsTrue result → (rank : ℕ) → HasRank items size t.old rank → HasRank items size t.new (suc rank) }
+    ensures last { result ≡ false → (rank : ℕ) → HasRank items size t.old rank → length (tuples items size) ≡ suc rank }
     ensures stays { result ≡ false → t.new ≡ t.old }
     ensures tuple { IsTuple items size t.new }
 {

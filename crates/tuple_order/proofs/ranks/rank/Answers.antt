@@ -12,8 +12,8 @@ overflow_add-result c =
     let b = length-tuples-bound c.args.items c.args.size c.requires.items_at_most c.requires.size_at_most in
     omega arith
 
-pub returns-clause-at : goal.returns-clause-at
-returns-clause-at c = rank-from_found c.args.items c.args.size c.args.t.now c.items-chosen.result.now c.count_of_fewer.result c.place_of.result c.requires.fits c.items-chosen.ensures.items c.count_of_fewer.ensures c.place_of.ensures
+pub returns-clause-rank : goal.returns-clause-rank
+returns-clause-rank c = rank-from_found c.args.items c.args.size c.args.t.now c.items-chosen.result.now c.count_of_fewer.result c.place_of.result c.requires.fits c.items-chosen.ensures.items c.count_of_fewer.ensures c.place_of.ensures
 
 pub returns-clause-below : goal.returns-clause-below
 returns-clause-below c =
