@@ -54,15 +54,15 @@ code_of-more s item g h =
 pub HasRoom-code_of : (s : List ℕ) (item : ℕ) → IsTuple most_items most_size s → IsTuple most_items most_size (s ++ item ∷ []) → HasRoom (code_of s)
 HasRoom-code_of s item g h = (code_of-small s g, omega (arith, code_of-size s g, IsTuple-longer_room s item h))
 
--- the digit of one item more, in its place
-pub digit-whole : (item digits : ℕ) → item < 511 → ((item + 1) * 2 ^ (45 - 9 * digits)) % 2 ^ 64 ≡ (item + 1) * 2 ^ (45 - 9 * digits)
-digit-whole item digits l = shl_whole (item + 1) 9 (45 - 9 * digits) 64 (omega arith) (omega arith)
+-- the digit of one item more, from any bit on where a digit may stand
+pub digit-whole : (item bit : ℕ) → item < 511 → bit ≤ 45 → ((item + 1) * 2 ^ bit) % 2 ^ 64 ≡ (item + 1) * 2 ^ bit
+digit-whole item bit l m = shl_whole (item + 1) 9 bit 64 (omega arith) (omega arith)
 
-pub digit-small : (item digits : ℕ) → item < 511 → (item + 1) * 2 ^ (45 - 9 * digits) < 2 ^ 54
-digit-small item digits l =
-    let b = shl_below (item + 1) 9 (45 - 9 * digits) (omega arith) in
-    let places : 9 + (45 - 9 * digits) ≤ 54 = omega arith in
-    let p : 2 ^ (9 + (45 - 9 * digits)) ≤ 2 ^ 54 = pow_mono places in
+pub digit-small : (item bit : ℕ) → item < 511 → bit ≤ 45 → (item + 1) * 2 ^ bit < 2 ^ 54
+digit-small item bit l m =
+    let b = shl_below (item + 1) 9 bit (omega arith) in
+    let places : 9 + bit ≤ 54 = omega arith in
+    let p : 2 ^ (9 + bit) ≤ 2 ^ 54 = pow_mono places in
     omega arith
 
 pub length-items_of_digits : (n worth code : ℕ) → length (items_of_digits n worth code) ≡ n

@@ -1,9 +1,9 @@
 //! The codes of tuples, and of all their subsets.
 
-ghost use Rattle.std.specs.Prelude.{◌≡◌, ◌↔◌, ℕ, ◌+◌, ◌*◌, ◌≤◌, ◌<◌, ◌^◌, IfSome, IfNone, List, length, slice_index};
+ghost use Rattle.std.specs.Prelude.{◌≡◌, ◌↔◌, ℕ, ◌+◌, ◌-◌, ◌*◌, ◌≤◌, ◌<◌, ◌^◌, IfSome, IfNone, List, length, slice_index};
 ghost use Rattle.tuple_model.specs.Limits.{most_items, most_size};
 ghost use Rattle.tuple_model.specs.Tuples.{IsTuple, IsBefore, subset as subset_of};
-ghost use Rattle.tuple_order.specs.Codes.{code_of, tuple_of_code, items_of_digits, code_with, HasRoom};
+ghost use Rattle.tuple_order.specs.Codes.{code_of, tuple_of_code, size_of_code, items_of_digits, code_with, HasRoom};
 
 use crate::tuples::{MOST_SIZE, Tuple};
 
@@ -13,10 +13,13 @@ const EMPTY: u64 = 1 << 62;
 // What one item more adds for the size.
 const ONE_MORE: u64 = 1 << 54;
 
-// The first digit stands from this bit on, and each further one, of 9 bits, right after the one before.
+// The first digit stands from this bit on, and each further one, of so many bits, right below it.
 const FIRST_DIGIT: u32 = 45;
 
 const DIGIT_BITS: u32 = 9;
+
+// One more than the greatest digit.
+const BASE: u64 = 1 << DIGIT_BITS;
 
 impl Tuple {
     /// A word that orders as the tuple does.
@@ -29,18 +32,18 @@ impl Tuple {
         let mut worth = 1 << FIRST_DIGIT;
         for item in items {
             code += (u64::from(*item) + 1) * worth;
-            worth /= 512;
+            worth /= BASE;
         }
         code
     }
 
     /// The tuple with a code.
     pub fn of_code(code: u64) -> Option<Tuple>
-        ensures tuple { IfSome result (λ t. code_of t ≡ code) }
-        ensures fits { IfSome result (IsTuple most_items most_size) }
+        ensures code { IfSome result (λ t. code_of t ≡ code) }
+        ensures tuple { IfSome result (IsTuple most_items most_size) }
         ensures none { IfNone result ((t : List ℕ) → IsTuple most_items most_size t → code_of t ≡ code → ⊥) }
     {
-        let size = (code / ONE_MORE % 256) as usize;
+        let size = size_in(code);
         if size > usize::from(MOST_SIZE) {
             return None;
         }
@@ -72,9 +75,23 @@ fn read_digits(code: u64, items: &mut [u16])
     ensures { items.new ≡ items_of_digits (length items.old) (2 ^ 45) code }
 {
     for place in 0..items.len() {
-        let bit = FIRST_DIGIT - DIGIT_BITS * place as u32;
-        items[place] = ((code >> bit) % 512).saturating_sub(1) as u16;
+        items[place] = ((code >> lowest_bit(place)) % BASE).saturating_sub(1) as u16;
     }
+}
+
+// The size that stands in a code.
+fn size_in(code: u64) -> usize
+    ensures { result ≡ size_of_code code }
+{
+    (code / ONE_MORE % 256) as usize
+}
+
+// Where the digit at a place has its lowest bit.
+fn lowest_bit(place: usize) -> u32
+    requires { place < most_size }
+    ensures { result ≡ 45 - 9 * place }
+{
+    FIRST_DIGIT - DIGIT_BITS * place as u32
 }
 
 // After the codes of the first subsets come those of the same subsets with one item more.
@@ -83,7 +100,8 @@ fn double(item: u16, known: usize, codes: &mut [u64; 64])
     requires room { 2 * known ≤ 64 }
     requires short { (k : ℕ) → k < known → HasRoom (slice_index codes.old k) }
     ensures known { (k : ℕ) → k < known → slice_index codes.new k ≡ slice_index codes.old k }
-    ensures longer { (k : ℕ) → k < known → slice_index codes.new (k + known) ≡ code_with (slice_index codes.old k) item }
+    ensures longer { (k : ℕ) → k < known →
+        slice_index codes.new (k + known) ≡ code_with (slice_index codes.old k) item }
     ensures rest { (k : ℕ) → 2 * known ≤ k → slice_index codes.new k ≡ slice_index codes.old k }
 {
     for number in 0..known {
@@ -97,8 +115,7 @@ fn with_item(code: u64, item: u16) -> u64
     requires short { HasRoom code }
     ensures { result ≡ code_with code item }
 {
-    let digits = (code / ONE_MORE % 256) as u32;
-    code + ONE_MORE + ((u64::from(item) + 1) << (FIRST_DIGIT - DIGIT_BITS * digits))
+    code + ONE_MORE + ((u64::from(item) + 1) << lowest_bit(size_in(code)))
 }
 
 /// Each tuple is the one with its code, and codes are ordered as the tuples are. No code is 0 or has bit 63.

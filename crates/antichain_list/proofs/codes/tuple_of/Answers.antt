@@ -13,6 +13,6 @@ of_code-requires c = ?
 pub returns : goal.returns
 returns c =
     let t = c.unwrap.result in
-    let e = MatchOption-at_some ⊤ (λ t. code_of t ≡ c.args.code) t c.unwrap.ensures c.of_code.ensures.tuple in
-    let f = MatchOption-at_some ⊤ (IsTuple most_items most_size) t c.unwrap.ensures c.of_code.ensures.fits in
+    let e = MatchOption-at_some ⊤ (λ t. code_of t ≡ c.args.code) t c.unwrap.ensures c.of_code.ensures.code in
+    let f = MatchOption-at_some ⊤ (IsTuple most_items most_size) t c.unwrap.ensures c.of_code.ensures.tuple in
     code_of-unique t (tuple_of_code c.args.code) f c.requires.tuple (e ∙ sym c.requires.same)
