@@ -29,8 +29,8 @@ pub data Rule : Type 0 where
   term : Rule
   unit : Rule
 
--- The tree is one by the rule. An expression is a term, or an expression, `+` and a term; a term is a unit, or a term, `*`
--- and a unit; a unit is a name, or an expression in parentheses.
+-- The tree is one by the rule. An expression is a term, or an expression, `+` and a term; a term is a unit, or a term,
+-- `*` and a unit; a unit is a name, or an expression in parentheses.
 abbrev pub Derives : Rule → Tree → Type 0
 Derives rule (named name) = IsTrue (is_name name)
 Derives rule (parens t) = Derives expr t

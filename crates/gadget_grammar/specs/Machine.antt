@@ -34,7 +34,8 @@ after_closing steps (level ∷ outer) = Some (record { steps = steps; outer = ou
 -- where a unit is wanted, only a name and an opening parenthesis are right
 abbrev pub next_before_unit : List NamedStep → List Level → Level → Symbol → Option State
 next_before_unit steps outer here (word w) =
-    if is_name w then Some (record { steps = steps ++ name w ∷ []; outer = outer; here = here; has_unit = true }) else None
+    if is_name w then Some (record { steps = steps ++ name w ∷ []; outer = outer; here = here; has_unit = true })
+    else None
 next_before_unit steps outer here opening =
     Some (record { steps = steps; outer = here ∷ outer; here = empty; has_unit = false })
 next_before_unit steps outer here symbol = None

@@ -8,7 +8,7 @@ use Rattle.gadget_text.specs.declared.token.Token.{Token}
 use Rattle.gadget_text.specs.declared.token.TokenKind.{TokenKind}
 use Rattle.gadget_text.specs.declared.token.TokenKind.TheVariants.{Word}
 use Rattle.gadget_text.specs.Errors.{Gives, Is, MemoryAside}
-use Rattle.gadget_text.specs.Places.{IsWithin, text_in, lexeme_in, lexemes_in}
+use Rattle.gadget_text.specs.Places.{LiesWithin, text_in, lexeme_in, lexemes_in}
 use Rattle.gadget_grammar.specs.declared.step.Step.{Step}
 use Rattle.gadget_grammar.specs.declared.step.Step.TheVariants as code
 use Rattle.gadget_grammar.specs.declared.step.Assignment.{Assignment}
@@ -52,7 +52,7 @@ word_tokens tokens = flat_map (λ t. where_word t.kind t) tokens
 
 -- the name of a step lies within so many bytes
 abbrev pub IsStepWithin : ℕ → Step → Type 0
-IsStepWithin len (code.Name token) = IsWithin len token
+IsStepWithin len (code.Name token) = LiesWithin len token
 IsStepWithin len code.Sum = Unit {0}
 IsStepWithin len code.Product = Unit {0}
 

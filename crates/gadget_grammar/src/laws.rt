@@ -7,7 +7,8 @@ ghost use Rattle.gadget_grammar.specs.Steps.{Meaning, tree_value, postfix, stack
 
 /// Tokens are an expression in one way at most, and an assignment of one expression to one name.
 pub fn one_tree_law()
-    ensures expression { (lexemes : List Lexeme) (s t : Tree) → IsExpression lexemes s → IsExpression lexemes t → s ≡ t }
+    ensures expression { (lexemes : List Lexeme) (s t : Tree) →
+        IsExpression lexemes s → IsExpression lexemes t → s ≡ t }
     ensures assignment { (lexemes : List Lexeme) (n m : List ℕ) (s t : Tree) →
         IsAssignment lexemes n s → IsAssignment lexemes m t → (n ≡ m) × (s ≡ t) }
 {}

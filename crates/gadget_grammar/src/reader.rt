@@ -1,7 +1,7 @@
 //! A reader of expressions that goes once through the tokens, with a stack of its own.
 
 ghost use Rattle.std.specs.Prelude.{◌≡◌, ℕ, List, [], All, length, IfOk, OnOk, true, false};
-ghost use Rattle.gadget_text.specs.Places.{IsWithin};
+ghost use Rattle.gadget_text.specs.Places.{LiesWithin};
 ghost use Rattle.gadget_grammar.specs.Steps.{sum, product};
 ghost use Rattle.gadget_grammar.specs.Machine.{with_waiting, with_level, final_steps, steps_from, initial_state};
 ghost use Rattle.gadget_grammar.specs.Seen.{symbols_in, steps_in, name_tokens, word_tokens, state_in, state_after, AddsName, Advances, GivesSteps};
@@ -77,7 +77,7 @@ impl Reader {
 
     // Where a unit is wanted, only a name and an opening parenthesis are right.
     fn begin(&mut self, line: u32, bytes: &[u8], token: Token) -> Result<(), FileError>
-        requires span { IsWithin (length bytes.now) token }
+        requires span { LiesWithin (length bytes.now) token }
         requires unit { self.old.has_unit ≡ false }
         ensures state { Advances line result (state_in bytes.now self.new) (state_after bytes.now self.old token) }
         ensures names { OnOk result (AddsName token self.old.steps.items self.new.steps.items) }
@@ -103,7 +103,8 @@ impl Reader {
     // Behind a unit, only `+`, `*` and a closing parenthesis are right.
     fn go_on(&mut self, line: u32, token: Token) -> Result<(), FileError>
         requires unit { self.old.has_unit ≡ true }
-        ensures state { (bytes : List ℕ) → Advances line result (state_in bytes self.new) (state_after bytes self.old token) }
+        ensures state { (bytes : List ℕ) →
+            Advances line result (state_in bytes self.new) (state_after bytes self.old token) }
         ensures names { OnOk result (AddsName token self.old.steps.items self.new.steps.items) }
     {
         match token.kind {
@@ -136,7 +137,7 @@ impl Reader {
 
     // Reads one more token.
     fn advance(&mut self, line: u32, bytes: &[u8], token: Token) -> Result<(), FileError>
-        requires { IsWithin (length bytes.now) token }
+        requires { LiesWithin (length bytes.now) token }
         ensures state { Advances line result (state_in bytes.now self.new) (state_after bytes.now self.old token) }
         ensures names { OnOk result (AddsName token self.old.steps.items self.new.steps.items) }
     {
@@ -173,7 +174,7 @@ pub(crate) fn expression(
     bytes: &[u8],
     tokens: &[Token],
 ) -> Result<Vec<Step>, FileError>
-    requires { All (IsWithin (length bytes.now)) tokens.now }
+    requires { All (LiesWithin (length bytes.now)) tokens.now }
     ensures steps { GivesSteps line bytes.now result (steps_from initial_state (symbols_in bytes.now tokens.now)) }
     ensures names { IfOk result (λ v. name_tokens v.items ≡ word_tokens tokens.now) }
 {

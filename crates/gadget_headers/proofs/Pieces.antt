@@ -4,7 +4,7 @@ use Rattle.std.specs.Prelude.{All, Option, Some, None, IfSome}
 use Rattle.std.proofs.Math.Seq.{take-append_seam, drop-append_seam}
 use Rattle.std.proofs.lemmas.List.Elements.{All-take, All-drop}
 use Rattle.gadget_text.specs.declared.token.Token.{Token}
-use Rattle.gadget_text.specs.Places.{IsWithin}
+use Rattle.gadget_text.specs.Places.{LiesWithin}
 use Rattle.gadget_headers.specs.declared.stems.Stems.{Stems}
 use Rattle.gadget_headers.specs.declared.headers.Headers.{Headers}
 use Rattle.gadget_headers.specs.Seen.{EndsWith, IsPiece, ArePiece, AreHeadersOf, AreWordsWithin, AreHeadersWithin}
@@ -29,17 +29,17 @@ module _ (all : List Token) where
   end_all : (P : Token → Type 0) (own : List Token) → EndsWith all own → All P all → All P own
   end_all P own h k = subst (All P) (drop-append_seam h.0 own) (All-drop P (length h.0) (h.0 ++ own) (subst (All P) (sym h.1) k))
 
-  some_within : (len : ℕ) (o : Option Stems) → All (IsWithin len) all → IfSome o (ArePiece all) → IfSome o (AreWordsWithin len)
+  some_within : (len : ℕ) (o : Option Stems) → All (LiesWithin len) all → IfSome o (ArePiece all) → IfSome o (AreWordsWithin len)
   some_within len None k h = tt
-  some_within len (Some stems) k h = piece_all (IsWithin len) stems.words.now h k
+  some_within len (Some stems) k h = piece_all (LiesWithin len) stems.words.now h k
 
   -- headers of tokens lie where the tokens do
-  pub headers_within : (len : ℕ) (h : Headers) → All (IsWithin len) all → AreHeadersOf all h → AreHeadersWithin len h
+  pub headers_within : (len : ℕ) (h : Headers) → All (LiesWithin len) all → AreHeadersOf all h → AreHeadersWithin len h
   headers_within len h k of' = record {
-    inputs = piece_all (IsWithin len) h.inputs.words.now of'.inputs k;
+    inputs = piece_all (LiesWithin len) h.inputs.words.now of'.inputs k;
     randoms = some_within len h.randoms k of'.randoms;
-    outputs = piece_all (IsWithin len) h.outputs.words.now of'.outputs k;
-    rest = end_all (IsWithin len) h.rest.now of'.rest k;
+    outputs = piece_all (LiesWithin len) h.outputs.words.now of'.outputs k;
+    rest = end_all (LiesWithin len) h.rest.now of'.rest k;
   }
 
 -- what comes after a line is shorter than with the line

@@ -2,7 +2,7 @@
 use Rattle.std.specs.Prelude.{◌≡◌, ℕ, List, ◌++◌, map, All, Result, IfSome, option_map}
 use Rattle.gadget_text.specs.declared.token.Header.{Header}
 use Rattle.gadget_text.specs.declared.token.Token.{Token}
-use Rattle.gadget_text.specs.Places.{text_in, lines_in, IsWithin}
+use Rattle.gadget_text.specs.Places.{text_in, lines_in, LiesWithin}
 use Rattle.gadget_headers.specs.declared.stems.Stems.{Stems}
 use Rattle.gadget_headers.specs.declared.headers.Headers.{Headers}
 use Rattle.gadget_headers.specs.declared.so_far.SoFar.{SoFar}
@@ -91,11 +91,11 @@ pub record AreHeadersOf (all : List Token) (h : Headers) : Type 0 where
 
 -- the words lie within so many bytes
 abbrev pub AreWordsWithin : ℕ → Stems → Type 0
-AreWordsWithin len stems = All (IsWithin len) stems.words.now
+AreWordsWithin len stems = All (LiesWithin len) stems.words.now
 
 -- the words of the headers and the tokens after them lie within so many bytes
 pub record AreHeadersWithin (len : ℕ) (h : Headers) : Type 0 where
   pub inputs : AreWordsWithin len h.inputs
   pub randoms : IfSome h.randoms (AreWordsWithin len)
   pub outputs : AreWordsWithin len h.outputs
-  pub rest : All (IsWithin len) h.rest.now
+  pub rest : All (LiesWithin len) h.rest.now

@@ -3,7 +3,7 @@
 ghost use Rattle.std.specs.Prelude.{◌≡◌, ℕ, List, All, length, IfOk};
 ghost use Rattle.gadget_text.specs.declared.token.Token.{Token};
 ghost use Rattle.gadget_text.specs.Errors.{Gives, Is};
-ghost use Rattle.gadget_text.specs.Places.{IsWithin, lines_in};
+ghost use Rattle.gadget_text.specs.Places.{LiesWithin, lines_in};
 ghost use Rattle.gadget_headers.specs.Headers.{preamble_of, end_headers};
 ghost use Rattle.gadget_headers.specs.Limits.{KeepsLimits};
 ghost use Rattle.gadget_headers.specs.Seen.{preamble_in, so_far_in, EndsWith, IsSoFarOf, AreHeadersOf, AreHeadersWithin};
@@ -45,7 +45,7 @@ fn end_headers<'a>(so_far: SoFar<'a>, rest: &'a [Token]) -> Result<Headers<'a>, 
 /// What the headers of a file with these tokens say; or the first offence of a header line, or the first header that is
 /// missing where the headers end. Time is linear in the length of the header lines and of the line after them.
 pub fn read_headers<'a>(bytes: &[u8], tokens: &'a [Token]) -> Result<Headers<'a>, FileError>
-    requires within { All (IsWithin (length bytes.now)) tokens.now }
+    requires within { All (LiesWithin (length bytes.now)) tokens.now }
     ensures says { Gives (preamble_in bytes.now) result (Is (preamble_of (lines_in bytes.now tokens.now))) }
     ensures limits { IfOk result (λ h. KeepsLimits (preamble_in bytes.now h)) }
     ensures pieces { IfOk result (AreHeadersOf tokens.now) }

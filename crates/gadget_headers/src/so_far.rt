@@ -4,7 +4,7 @@ ghost use Rattle.std.specs.Prelude.{◌≡◌, ℕ, List, All, IfOk, length};
 ghost use Rattle.gadget_text.specs.declared.token.Header.TheVariants.{In, Out, Randoms};
 ghost use Rattle.gadget_text.specs.declared.token.Token.{Token};
 ghost use Rattle.gadget_text.specs.Errors.{Gives, Is};
-ghost use Rattle.gadget_text.specs.Places.{IsWithin};
+ghost use Rattle.gadget_text.specs.Places.{LiesWithin};
 ghost use Rattle.gadget_headers.specs.Headers.{no_headers, one_word, with_profile, with_shares};
 ghost use Rattle.gadget_headers.specs.Seen.{so_far_in, texts_in, header_said, line_said, IsSoFarOf, StaysOf};
 
@@ -85,7 +85,7 @@ fn with_inputs<'a>(
     so_far: SoFar<'a>,
     words: &'a [Token],
 ) -> Result<SoFar<'a>, FileError>
-    requires { All (IsWithin (length bytes.now)) words.now }
+    requires { All (LiesWithin (length bytes.now)) words.now }
     ensures says { Gives (so_far_in bytes.now) result (Is (header_said bytes.now line so_far.entry words.now In)) }
     ensures pieces { IfOk result (StaysOf words.now so_far.entry) }
 {
@@ -107,7 +107,7 @@ fn with_randoms<'a>(
     so_far: SoFar<'a>,
     words: &'a [Token],
 ) -> Result<SoFar<'a>, FileError>
-    requires { All (IsWithin (length bytes.now)) words.now }
+    requires { All (LiesWithin (length bytes.now)) words.now }
     ensures says { Gives (so_far_in bytes.now) result (Is (header_said bytes.now line so_far.entry words.now Randoms)) }
     ensures pieces { IfOk result (StaysOf words.now so_far.entry) }
 {
@@ -126,7 +126,7 @@ fn with_outputs<'a>(
     so_far: SoFar<'a>,
     words: &'a [Token],
 ) -> Result<SoFar<'a>, FileError>
-    requires { All (IsWithin (length bytes.now)) words.now }
+    requires { All (LiesWithin (length bytes.now)) words.now }
     ensures says { Gives (so_far_in bytes.now) result (Is (header_said bytes.now line so_far.entry words.now Out)) }
     ensures pieces { IfOk result (StaysOf words.now so_far.entry) }
 {
@@ -143,7 +143,7 @@ fn with_outputs<'a>(
 
 // The word of a header that takes exactly one.
 fn only_word<'b>(bytes: &'b [u8], line: u32, words: &[Token]) -> Result<&'b [u8], FileError>
-    requires { All (IsWithin (length bytes.now)) words.now }
+    requires { All (LiesWithin (length bytes.now)) words.now }
     ensures { Gives (λ word. word.now) result (Is (one_word line (texts_in bytes.now words.now))) }
 {
     if words.len() != 1 {
@@ -158,7 +158,7 @@ pub(crate) fn with_header<'a>(
     so_far: SoFar<'a>,
     line: HeaderLine<'a>,
 ) -> Result<SoFar<'a>, FileError>
-    requires { All (IsWithin (length bytes.now)) line.words.now }
+    requires { All (LiesWithin (length bytes.now)) line.words.now }
     ensures says { Gives (so_far_in bytes.now) result (Is (line_said bytes.now so_far.entry line.entry)) }
     ensures pieces { IfOk result (StaysOf line.entry.words.now so_far.entry) }
 {

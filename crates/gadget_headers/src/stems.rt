@@ -3,7 +3,7 @@
 ghost use Rattle.std.specs.Prelude.{◌≡◌, All, IfOk, length};
 ghost use Rattle.std.specs.List.{list_all};
 ghost use Rattle.gadget_text.specs.Names.{is_stem};
-ghost use Rattle.gadget_text.specs.Places.{IsWithin};
+ghost use Rattle.gadget_text.specs.Places.{LiesWithin};
 ghost use Rattle.gadget_text.specs.Errors.{Gives, Is};
 ghost use Rattle.gadget_headers.specs.Headers.{listed};
 ghost use Rattle.gadget_headers.specs.Seen.{listed_in, texts_in};
@@ -20,7 +20,7 @@ pub struct Stems<'a> {
 }
 
 fn are_stems(bytes: &[u8], words: &[Token]) -> bool
-    requires { All (IsWithin (length bytes.now)) words.now }
+    requires { All (LiesWithin (length bytes.now)) words.now }
     ensures { result ≡ list_all is_stem (texts_in bytes.now words.now) }
 {
     for word in words {
@@ -40,7 +40,7 @@ pub(crate) fn listed<'a>(
     things: What,
     words: &'a [Token],
 ) -> Result<Stems<'a>, FileError>
-    requires { All (IsWithin (length bytes.now)) words.now }
+    requires { All (LiesWithin (length bytes.now)) words.now }
     ensures says {
         Gives (listed_in bytes.now) result (Is (listed line is_twice most things (texts_in bytes.now words.now))) }
     ensures words { IfOk result (λ stems. stems.words.now ≡ words.now) }

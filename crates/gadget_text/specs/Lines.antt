@@ -55,7 +55,8 @@ hash_kind (Some h) = HeaderLine h
 -- The kind of a line goes by its first byte that is no blank: there is none, or it is `#`, or another byte.
 abbrev pub line_kind : List ℕ → LineKind
 line_kind [] = Blank
-line_kind (b ∷ bs) = if is_blank b then line_kind bs else (if is_hash b then hash_kind (header_behind bs) else Assignment)
+line_kind (b ∷ bs) =
+    if is_blank b then line_kind bs else (if is_hash b then hash_kind (header_behind bs) else Assignment)
 
 -- what stands before the next `#`
 abbrev pub before_hash : List ℕ → List ℕ

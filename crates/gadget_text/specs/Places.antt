@@ -48,7 +48,7 @@ abbrev pub line_of : List ℕ → LineTokens → TokenLine
 line_of bytes line = record { number = line.line; lexemes = lexemes_in bytes line.tokens.now }
 
 -- the token lies within so many bytes
-pub record IsWithin (len : ℕ) (t : Token) : Type 0 where
+pub record LiesWithin (len : ℕ) (t : Token) : Type 0 where
   pub rises : t.from ≤ t.to
   pub ends : t.to ≤ len
 

@@ -10,17 +10,17 @@ use std::alloc::{AllocError, AllocFailed};
 /// What a file has too many of.
 #[derive(Clone, Copy, Debug, PartialEq, Eq, Drop)]
 pub enum What {
-    /// Over 16 shares.
+    /// Over `gadget_limits::MOST_SHARES` shares.
     Shares,
-    /// Over four inputs.
+    /// Over `gadget_limits::MOST_INPUTS` inputs.
     Inputs,
-    /// Over two outputs.
+    /// Over `gadget_limits::MOST_OUTPUTS` outputs.
     Outputs,
-    /// Over 128 randoms.
+    /// Over `gadget_limits::MOST_RANDOMS` randoms.
     Randoms,
-    /// Over 64 parentheses are open at a place of a line.
+    /// Over `gadget_grammar::MOST_OPEN_PARENTHESES` parentheses are open at a place of a line.
     Nesting,
-    /// Over 511 variables.
+    /// Over `gadget_limits::MOST_VARIABLES` variables.
     Variables,
 }
 

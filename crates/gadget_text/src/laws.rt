@@ -10,7 +10,7 @@ ghost use Rattle.gadget_text.specs.Lines.{lines_of, line_kind, kept_part, counts
 ghost use Rattle.gadget_text.specs.Names.{is_name, IsStemWithNumbers};
 ghost use Rattle.gadget_text.specs.Segments.{token, segments, line_segments, joined};
 ghost use Rattle.gadget_text.specs.Tokens.{line_lexemes, token_lines};
-ghost use Rattle.gadget_text.specs.Places.{tokens_of, lexemes_in, Rises, IsWithin, runs_by_line, lines_in};
+ghost use Rattle.gadget_text.specs.Places.{tokens_of, lexemes_in, Rises, LiesWithin, runs_by_line, lines_in};
 
 /// The segments of a line that counts are its kept part, side by side.
 pub fn segments_law()
@@ -40,7 +40,7 @@ pub fn words_law()
 
 /// The tokens of a file lie within its bytes, so that the text of each can be read.
 pub fn spans_law()
-    ensures { (bytes : List ℕ) → All (IsWithin (length bytes)) (tokens_of bytes) }
+    ensures { (bytes : List ℕ) → All (LiesWithin (length bytes)) (tokens_of bytes) }
 {}
 
 /// A name is a stem, and then numbers with a dot in front of each.

@@ -46,7 +46,8 @@ fn split_at<'a>(line: u32, tokens: &'a [Token], len: usize) -> LineTokens<'a>
 /// The first line of tokens, where there is one. Time is linear in how many tokens it has.
 pub fn first_line(tokens: &[Token]) -> Option<LineTokens<'_>>
     ensures none { IfNone result (tokens.now ≡ []) }
-    ensures line { IfSome result (λ l. (bytes : List ℕ) → lines_in bytes tokens.now ≡ line_of bytes l ∷ lines_in bytes l.rest.now) }
+    ensures line { IfSome result (λ l. (bytes : List ℕ) →
+        lines_in bytes tokens.now ≡ line_of bytes l ∷ lines_in bytes l.rest.now) }
     ensures some { IfSome result (λ l. 0 < length l.tokens.now) }
     ensures parts { IfSome result (λ l. l.tokens.now ++ l.rest.now ≡ tokens.now) }
 {

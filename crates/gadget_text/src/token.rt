@@ -1,7 +1,7 @@
 //! Tokens, and why a file has none.
 
 ghost use Rattle.std.specs.Prelude.{◌≡◌, length};
-ghost use Rattle.gadget_text.specs.Places.{IsWithin, text_in};
+ghost use Rattle.gadget_text.specs.Places.{LiesWithin, text_in};
 ghost use Rattle.gadget_text.specs.declared.token.TextError.TheVariants.{OutOfMemory};
 
 use std::alloc::{AllocError, AllocFailed};
@@ -53,7 +53,7 @@ pub struct Token {
 
 /// The text of a token of a file with these bytes.
 pub fn text(bytes: &[u8], token: Token) -> &[u8]
-    requires { IsWithin (length bytes.now) token }
+    requires { LiesWithin (length bytes.now) token }
     ensures { result.now ≡ text_in bytes.now token }
 {
     &bytes[token.from as usize..token.to as usize]

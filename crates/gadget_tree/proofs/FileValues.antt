@@ -18,7 +18,8 @@ use Rattle.gadget_tree.proofs.NamedVariables.{named_distinct}
 use Rattle.gadget_tree.proofs.OutputShares.{outputs_made}
 use Rattle.gadget_tree.proofs.MadeGadgets.{said_gadget}
 use Rattle.gadget_tree.proofs.LinesAmong.{assignment_behind, later_variables, IsLineOf, line_among}
-use Rattle.gadget_tree.proofs.NamedValues.{HasBit, HasPart, first_values, line_values}
+use Rattle.gadget_tree.specs.Values.{HasPart}
+use Rattle.gadget_tree.proofs.NamedValues.{HasBit, first_values, line_values}
 
 -- the variables of a gadget that was read are those behind the lines
 pub read_variables : (bytes : List ℕ) (g : Circuit) (h : Preamble) (start vs : List Variable) → IsRead bytes g h start vs → g.variables ≡ vs

@@ -7,6 +7,7 @@ use Rattle.std.proofs.lemmas.List.Elements.{All-append, All-map, All-weaker, All
 use Rattle.std.proofs.lemmas.Nat.{mul-le}
 use Rattle.std.proofs.lemmas.Option.{slice_get_within, get_or_from_slice_get}
 use Rattle.list_laws.proofs.Members.{AllPairs-append_left, AllPairs-append_right}
+use Rattle.gadget_limits.specs.Limits.{most_variables}
 use Rattle.gadget_model.specs.Circuit.{Node, share, random, copy, sum_of, product_of, Variable, Circuit, NamesEarlier}
 use Rattle.gadget_text.specs.Tokens.{token_lines}
 use Rattle.gadget_headers.specs.Headers.{Preamble}
@@ -18,7 +19,7 @@ use Rattle.gadget_tree.specs.File.{named_variables, flat_gadget, FileSays}
 use Rattle.gadget_tree.proofs.Names.{test_from_distinct}
 use Rattle.gadget_tree.proofs.Read.{file_read}
 use Rattle.gadget_tree.proofs.Numbered.{AllFrom-get_or}
-use Rattle.gadget_tree.proofs.Nodes.{AreInOrder}
+use Rattle.gadget_tree.proofs.Nodes.{AreByName}
 use Rattle.gadget_tree.proofs.HeaderVariables.{nodes_of, line_of_randoms, header_variables-parts, names_of-header_variables, length-share_names, IsHeaderNode, nodes-header_variables}
 use Rattle.gadget_tree.proofs.NamedVariables.{AreNamed, named_distinct}
 use Rattle.gadget_tree.proofs.Prefixes.{IsPrefix, lines_prefix}
@@ -43,13 +44,13 @@ operation_numbered g (sum_of a b) h = tt
 operation_numbered g (product_of a b) h = tt
 
 -- nodes that may stand anywhere stand in order
-anywhere_in_order : (randoms n : ℕ) (vs : List Node) → All (λ v. (k : ℕ) → NamesEarlier randoms k v) vs → AreInOrder randoms n vs
+anywhere_in_order : (randoms n : ℕ) (vs : List Node) → All (λ v. (k : ℕ) → NamesEarlier randoms k v) vs → AreByName randoms n vs
 anywhere_in_order randoms n [] h = tt
 anywhere_in_order randoms n (v ∷ vs) h =
     (All-head (λ v. (k : ℕ) → NamesEarlier randoms k v) v vs h n, anywhere_in_order randoms (n + 1) vs (All-tail (λ v. (k : ℕ) → NamesEarlier randoms k v) v vs h))
 
 -- each node names earlier ones, where they stand in order from the first on
-from_first : (randoms : ℕ) (vs : List Node) → AreInOrder randoms 0 vs → (k : ℕ) (d : Node) → k < length vs → NamesEarlier randoms k (get_or vs k d)
+from_first : (randoms : ℕ) (vs : List Node) → AreByName randoms 0 vs → (k : ℕ) (d : Node) → k < length vs → NamesEarlier randoms k (get_or vs k d)
 from_first randoms vs h k d l = subst (λ m. NamesEarlier randoms m (get_or vs k d)) (let e : 0 + k ≡ k = omega arith in e) (AllFrom-get_or (NamesEarlier randoms) 0 vs h k d l)
 
 module _ (h : Preamble) (limits : KeepsLimits h) where
@@ -67,7 +68,7 @@ module _ (h : Preamble) (limits : KeepsLimits h) where
       let all = length-append shares (stems_of h.randoms) in
       let each = length-share_names h.shares h.inputs.stems in
       let bound = mul-le (length h.inputs.stems) h.shares 4 16 limits.few_inputs limits.few_shares in
-      let few : length (header_variables h) ≤ 511 = let r = limits.few_randoms in omega arith in
+      let few : length (header_variables h) ≤ most_variables = let r = limits.few_randoms in omega arith in
       subst (IsPrefix randoms (header_variables h)) (sym named.variables) (record {
         few = few;
         distinct = subst AreDistinct (sym (names_of-header_variables h)) (AllPairs-append_left (λ a b. a ≢ b) (shares ++ stems_of h.randoms) (share_names h.shares h.outputs.stems) named.distinct);
@@ -80,7 +81,7 @@ module _ (h : Preamble) (limits : KeepsLimits h) where
   pub header_distinct : named_variables h ≡ Ok (header_variables h) → are_distinct (names_of (header_variables h)) ≡ true
   header_distinct e = test_from_distinct (names_of (header_variables h)) (header_prefix (header_variables h) (named_distinct h (header_variables h) e)).distinct
 
-  pub header_few : named_variables h ≡ Ok (header_variables h) → length (header_variables h) ≤ 511
+  pub header_few : named_variables h ≡ Ok (header_variables h) → length (header_variables h) ≤ most_variables
   header_few e = (header_prefix (header_variables h) (named_distinct h (header_variables h) e)).few
 
   -- all shares are numbered

@@ -19,7 +19,7 @@ use Rattle.list_laws.proofs.Members.{Contains-cons_head, Contains-cons_tail}
 use Rattle.list_laws.proofs.Inserted.{AllPairs-insert}
 use Rattle.gadget_tree.specs.declared.var.Var.{Var}
 use Rattle.gadget_tree.specs.Seen.{variable_of, variables_of}
-use Rattle.gadget_tree.specs.NameOrder.{compare_names, ComesBefore, name_in, AreInOrder, IsRank, AreAllInOrder}
+use Rattle.gadget_tree.specs.NameOrder.{compare_names, ComesBefore, name_in, AreByName, IsRank, AreAllInOrder}
 use Rattle.gadget_tree.specs.Variables.{names_of, name_at, is_among, place_of, AreDistinct}
 use Rattle.gadget_tree.proofs.Names.{contains_among, length-names_of, name_at-place_of, place_of_variable}
 use Rattle.gadget_tree.proofs.NamePlaces.{place_of-get_or}
@@ -57,7 +57,7 @@ compared-other seen v w o b same e f g h =
     let less : is_lt o ≡ true = ap is_lt (e ∙ ap (λ (z : List ℕ). compare_names z w) same ∙ h) in
     absurd cc
 
-module _ (variables : List Variable) (numbers : List ℕ) (name : List ℕ) (m : ℕ) (sorted : AreInOrder variables numbers) (below : m < length numbers) where
+module _ (variables : List Variable) (numbers : List ℕ) (name : List ℕ) (m : ℕ) (sorted : AreByName variables numbers) (below : m < length numbers) where
   -- with the name at a place those before it come before too
   pub up-to : ComesBefore (name_in variables numbers m) name → (i : ℕ) → i < m + 1 → ComesBefore (name_in variables numbers i) name
   up-to h i l = elim (cases_lt i m) [

@@ -12,7 +12,7 @@ use Rattle.gadget_grammar.specs.Grammar.{Tree}
 use Rattle.gadget_grammar.specs.Steps as steps
 use Rattle.gadget_tree.specs.Variables.{names_of, is_among, place_of, AreDistinct}
 use Rattle.gadget_tree.specs.Operations.{line_parts, line_names, line_nodes}
-use Rattle.gadget_tree.specs.Values.{value_named, meaning_in}
+use Rattle.gadget_tree.specs.Values.{value_named, meaning_in, HasPart}
 use Rattle.gadget_tree.proofs.Names.{length-names_of}
 use Rattle.gadget_tree.proofs.NamePlaces.{place_of-append_left, distinct_places}
 use Rattle.gadget_tree.proofs.HeaderVariables.{nodes_of, IsHeaderNode}
@@ -24,10 +24,6 @@ use Rattle.gadget_tree.proofs.TreeValues.{HasNode, HasTree, part_values}
 -- the name of a variable has the value of its node, which needs no other variable
 abbrev pub HasBit : Circuit → (ℕ → Bool) → List Bool → Variable → Type 0
 HasBit g x r v = value_named g x r v.name ≡ value_of x r (λ _. false) v.node
-
--- a name has the value of a part of a tree
-abbrev pub HasPart : Circuit → (ℕ → Bool) → List Bool → List ℕ → Tree → Type 0
-HasPart g x r name part = value_named g x r name ≡ steps.tree_value (meaning_in g x r) part
 
 -- the value of a header's node needs no other variable
 value_of_header : (x : ℕ → Bool) (r : List Bool) (inputs n randoms : ℕ) (e e' : ℕ → Bool) (v : Node) → IsHeaderNode inputs n randoms v → value_of x r e v ≡ value_of x r e' v

@@ -7,6 +7,7 @@ use Rattle.std.proofs.lemmas.List.{length-map}
 use Rattle.std.proofs.lemmas.List.Elements.{All-append, All-nil, All-cons, All-head, All-tail}
 use Rattle.list_laws.proofs.Members.{Contains-cons_cases, AllPairs-append}
 use Rattle.list_laws.proofs.Once.{Contains-nil}
+use Rattle.gadget_limits.specs.Limits.{most_variables}
 use Rattle.gadget_model.specs.Circuit.{Node, Variable, NamesEarlier}
 use Rattle.gadget_text.specs.Names.{is_name}
 use Rattle.gadget_text.specs.Tokens.{TokenLine}
@@ -18,16 +19,16 @@ use Rattle.gadget_tree.specs.File.{LinesSay}
 use Rattle.gadget_tree.proofs.Names.{contains_among, length-names_of}
 use Rattle.gadget_tree.proofs.InnerNames.{names_apart, all_are_names}
 use Rattle.gadget_tree.proofs.Numbered.{AllFrom-append}
-use Rattle.gadget_tree.proofs.Nodes.{AreInOrder, line_nodes_are, line_in_order}
+use Rattle.gadget_tree.proofs.Nodes.{AreByName, line_nodes_are, line_in_order}
 use Rattle.gadget_tree.proofs.HeaderVariables.{nodes_of}
 use Rattle.gadget_tree.proofs.MadeLines.{IsLine, first_line_read, names_behind, length_behind}
 
--- The variables so far, behind those of the headers, with so many randoms: at most 511, with names of their own, in order, and
+-- The variables so far, behind those of the headers, with so many randoms: not too many, with names of their own, in order, and
 -- operations under names.
 pub record IsPrefix (randoms : ℕ) (start vs : List Variable) : Type 0 where
-  pub few : length vs ≤ 511
+  pub few : length vs ≤ most_variables
   pub distinct : AreDistinct (names_of vs)
-  pub in_order : AreInOrder randoms 0 (nodes_of vs)
+  pub in_order : AreByName randoms 0 (nodes_of vs)
   pub operations : (operations : List Variable) × (vs ≡ start ++ operations) × All IsOperation operations
 
 -- variables that a line makes are operations under names, where its names and nodes are
@@ -51,13 +52,13 @@ apart names (name ∷ more) e a b h k =
 
 -- the nodes of a line stand in order behind the earlier ones
 line_order : (randoms : ℕ) (earlier : List Variable) (tree : Tree) → list_all (is_among (names_of earlier)) (leaves tree) ≡ true →
-    AreInOrder randoms (0 + length (nodes_of earlier)) (line_nodes (place_of (names_of earlier)) (length earlier) tree)
+    AreByName randoms (0 + length (nodes_of earlier)) (line_nodes (place_of (names_of earlier)) (length earlier) tree)
 line_order randoms earlier tree known =
     let names = names_of earlier in
     let new = line_nodes (place_of names) (length earlier) tree in
     let m = length-map earlier (λ (v : Variable). v.node) in
     let e : length earlier ≡ 0 + length (nodes_of earlier) = omega arith in
-    subst (λ k. AreInOrder randoms k new) e (subst (λ k. AreInOrder randoms k (line_nodes (place_of names) k tree)) (length-names_of earlier) (line_in_order randoms names tree known))
+    subst (λ k. AreByName randoms k new) e (subst (λ k. AreByName randoms k (line_nodes (place_of names) k tree)) (length-names_of earlier) (line_in_order randoms names tree known))
 
 -- one line more
 prefix_more : (randoms : ℕ) (start earlier : List Variable) (line : TokenLine) (name : List ℕ) (tree : Tree) (now : List Variable) → IsLine earlier line name tree now → IsPrefix randoms start earlier → IsPrefix randoms start now
@@ -75,7 +76,7 @@ prefix_more randoms start earlier line name tree now l p =
       few = omega arith;
       distinct = subst AreDistinct (sym behind.0)
           (AllPairs-append (λ a b. a ≢ b) names (line_names name tree) p.distinct (names_apart name (length (line_parts tree) - 1) small) (apart names (line_names name tree) l.new));
-      in_order = subst (AreInOrder randoms 0) (sym behind.1) (AllFrom-append (NamesEarlier randoms) 0 (nodes_of earlier) new p.in_order (line_order randoms earlier tree l.known));
+      in_order = subst (AreByName randoms 0) (sym behind.1) (AllFrom-append (NamesEarlier randoms) 0 (nodes_of earlier) new p.in_order (line_order randoms earlier tree l.known));
       operations = (
         p.operations.0 ++ made,
         l.makes ∙ ap (λ (z : List Variable). z ++ made) p.operations.1 ∙ append_assoc start p.operations.0 made,

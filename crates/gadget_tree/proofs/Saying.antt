@@ -24,10 +24,6 @@ text_read bytes tokens e n =
     let ok : Result (List TokenLine) FileError = Ok (token_lines bytes) in
     ap (λ (o : Option ℕ). refuse_found (option_map NotText o) >> ok) n ∙ ap Ok (sym (ap (lines_in bytes) e ∙ file_runs bytes))
 
--- the first line of a file that is no text
-pub text_named : (bytes : List ℕ) (line : ℕ) → first_not_text 1 (lines_of bytes) ≡ Some line → TextSays bytes (Err (NotText line))
-text_named bytes line n = let ok : Result (List TokenLine) FileError = Ok (token_lines bytes) in ap (λ (o : Option ℕ). refuse_found (option_map NotText o) >> ok) n
-
 -- the same of equal tokens
 pub text_given : (bytes : List ℕ) (tokens given : List Token) → given ≡ tokens → TextSays bytes (Ok (lines_in bytes tokens)) → TextSays bytes (Ok (lines_in bytes given))
 text_given bytes tokens given e text = text ∙ ap (λ (ts : List Token). let r : Result (List TokenLine) FileError = Ok (lines_in bytes ts) in r) (sym e)

@@ -26,8 +26,10 @@ abbrev pub operation_line : List Variable → List ℕ → Node → List (List (
 operation_line variables x (share k) = []
 operation_line variables x (random k) = []
 operation_line variables x (copy a) = (x ∷ codes "=" ∷ name_at variables a ∷ []) ∷ []
-operation_line variables x (sum_of a b) = (x ∷ codes "=" ∷ name_at variables a ∷ codes "+" ∷ name_at variables b ∷ []) ∷ []
-operation_line variables x (product_of a b) = (x ∷ codes "=" ∷ name_at variables a ∷ codes "*" ∷ name_at variables b ∷ []) ∷ []
+operation_line variables x (sum_of a b) =
+    (x ∷ codes "=" ∷ name_at variables a ∷ codes "+" ∷ name_at variables b ∷ []) ∷ []
+operation_line variables x (product_of a b) =
+    (x ∷ codes "=" ∷ name_at variables a ∷ codes "*" ∷ name_at variables b ∷ []) ∷ []
 
 -- the lines of the operations among variables, whose operands are among all of them
 abbrev pub operations_among : List Variable → List Variable → List (List (List ℕ))

@@ -27,8 +27,8 @@ file_lines bytes = do
   check_text bytes
   Ok (token_lines bytes)
 
--- what all headers of a file say, or the first offence up to where they end; the first line of the file that is not text
--- comes before all others
+-- what all headers of a file say, or the first offence up to where they end; the first line of the file that is not
+-- text comes before all others
 abbrev pub file_headers : List ℕ → Result Preamble FileError
 file_headers bytes = do
   lines ← file_lines bytes

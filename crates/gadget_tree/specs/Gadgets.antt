@@ -36,8 +36,8 @@ IsShareBelow inputs shares (Copy a) = Unit {0}
 IsShareBelow inputs shares (Sum a b) = Unit {0}
 IsShareBelow inputs shares (Product a b) = Unit {0}
 
--- A variable that is a share has an input and an index of the gadget. With its number, 16 * input + index, that says which
--- input and which index they are.
+-- A variable that is a share has an input and an index of the gadget. With its number, 16 * input + index, that says
+-- which input and which index they are.
 abbrev pub HasShareOf : Circuit → Var → Type 0
 HasShareOf g v = IsShareBelow (length g.inputs) g.shares v.kind
 
@@ -46,10 +46,13 @@ pub record IsOperation (v : Variable) : Type 0 where
   pub name : IsTrue (is_name v.name)
   pub node : IsOperationNode v.node
 
--- The variables are the input shares, the randoms and then operations. Shares and randoms are named by stems, and input shares,
--- randoms and output shares have names of their own.
-pub record IsLaidOut (g : Circuit) (input_line random_line : ℕ) (randoms : List (List ℕ)) (operations : List Variable) : Type 0 where
-  pub variables : g.variables ≡ share_variables input_line g.shares 0 g.inputs ++ random_variables random_line 0 randoms ++ operations
+-- The variables are the input shares, the randoms and then operations. Shares and randoms are named by stems, and input
+-- shares, randoms and output shares have names of their own.
+pub record IsLaidOut
+    (g : Circuit) (input_line random_line : ℕ) (randoms : List (List ℕ)) (operations : List Variable) : Type 0 where
+  pub variables :
+      g.variables
+      ≡ share_variables input_line g.shares 0 g.inputs ++ random_variables random_line 0 randoms ++ operations
   pub all_operations : All IsOperation operations
   pub count_randoms : g.randoms ≡ length randoms
   pub input_stems : All (λ w. IsTrue (is_stem w)) g.inputs
@@ -57,8 +60,9 @@ pub record IsLaidOut (g : Circuit) (input_line random_line : ℕ) (randoms : Lis
   pub output_stems : All (λ w. IsTrue (is_stem w)) g.outputs
   pub distinct_headers : AreDistinct (share_names g.shares g.inputs ++ randoms ++ share_names g.shares g.outputs)
 
--- a gadget within the limits, with names of their own for its variables, in order of evaluation, in which each output share is the
--- variable of its name, no variable is two output shares, and the variables are input shares, randoms and then operations
+-- a gadget within the limits, with names of their own for its variables, in order of evaluation, in which each output
+-- share is the variable of its name, no variable is two output shares, and the variables are input shares, randoms and
+-- then operations
 pub record IsGadget (g : Circuit) : Type 0 where
   pub some_shares : 1 ≤ g.shares
   pub few_shares : g.shares ≤ most_shares
@@ -75,9 +79,12 @@ pub record IsGadget (g : Circuit) : Type 0 where
   pub outputs_exist : All (λ v. v < length g.variables) g.output_shares
   pub distinct_outputs : AllPairs (λ v w. v ≢ w) g.output_shares
   pub outputs_named : share_names g.shares g.outputs ≡ map (name_at g.variables) g.output_shares
-  pub laid_out : (input_line : ℕ) × (random_line : ℕ) × (randoms : List (List ℕ)) × (operations : List Variable) × IsLaidOut g input_line random_line randoms operations
+  pub laid_out :
+      (input_line : ℕ) × (random_line : ℕ) × (randoms : List (List ℕ)) × (operations : List Variable)
+      × IsLaidOut g input_line random_line randoms operations
 
 -- Which share of which output variable v is: none, where it is no output share.
 abbrev pub IsOutOf : Circuit → ℕ → Option (ℕ × ℕ) → Type 0
 IsOutOf g v None = Contains g.output_shares v → ⊥
-IsOutOf g v (Some (output, index)) = (output < length g.outputs) × (index < g.shares) × (slice_index g.output_shares (g.shares * output + index) ≡ v)
+IsOutOf g v (Some (output, index)) =
+    (output < length g.outputs) × (index < g.shares) × (slice_index g.output_shares (g.shares * output + index) ≡ v)

@@ -19,8 +19,8 @@ abbrev pub name_in : List Variable → List ℕ → ℕ → List ℕ
 name_in variables numbers i = name_at variables (slice_index numbers i)
 
 -- these numbers stand in the order of the names
-abbrev pub AreInOrder : List Variable → List ℕ → Type 0
-AreInOrder variables numbers = AllPairs (λ j k. ComesBefore (name_at variables j) (name_at variables k)) numbers
+abbrev pub AreByName : List Variable → List ℕ → Type 0
+AreByName variables numbers = AllPairs (λ j k. ComesBefore (name_at variables j) (name_at variables k)) numbers
 
 -- so many of the numbers, which stand first, have names that come before this one
 pub record IsRank (variables : List Variable) (numbers : List ℕ) (name : List ℕ) (rank : ℕ) : Type 0 where
@@ -31,6 +31,6 @@ pub record IsRank (variables : List Variable) (numbers : List ℕ) (name : List 
 -- the numbers of all variables, whose names differ, in the order of these names
 pub record AreAllInOrder (variables : List Variable) (numbers : List ℕ) : Type 0 where
   pub distinct : AreDistinct (names_of variables)
-  pub in_order : AreInOrder variables numbers
+  pub in_order : AreByName variables numbers
   pub below : All (λ k. k < length variables) numbers
   pub each : (k : ℕ) → k < length variables → Contains numbers k

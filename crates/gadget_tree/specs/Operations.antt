@@ -36,8 +36,8 @@ leaves (parens t) = leaves t
 leaves (sum_of a b) = leaves a ++ leaves b
 leaves (product_of a b) = leaves a ++ leaves b
 
--- the number of the variable that has a tree's value, where `look` finds names, and the tree's operations have numbers from
--- `base` on
+-- the number of the variable that has a tree's value, where `look` finds names, and the tree's operations have numbers
+-- from `base` on
 abbrev pub top : (List ℕ → ℕ) → ℕ → Tree → ℕ
 top look base (named name) = look name
 top look base (parens t) = top look base t
@@ -67,4 +67,5 @@ line_nodes look base t = or_copy (top look base t) (operation_nodes look base t)
 abbrev pub made_variables : ℕ → List (List ℕ) → List Node → List Variable
 made_variables line [] nodes = []
 made_variables line (name ∷ names) [] = []
-made_variables line (name ∷ names) (n ∷ nodes) = record { name = name; node = n; line = line } ∷ made_variables line names nodes
+made_variables line (name ∷ names) (n ∷ nodes) =
+    record { name = name; node = n; line = line } ∷ made_variables line names nodes

@@ -39,7 +39,8 @@ AreDistinct names = AllPairs (λ a b. a ≢ b) names
 
 -- the variables of the n shares of input k, which a line lists
 abbrev pub shares_of_input : ℕ → ℕ → ℕ → List ℕ → List Variable
-shares_of_input line n k stem = map (λ i. record { name = share_name stem i; node = share (16 * k + i); line = line }) (range_with_len 0 n)
+shares_of_input line n k stem =
+    map (λ i. record { name = share_name stem i; node = share (16 * k + i); line = line }) (range_with_len 0 n)
 
 -- the variables of the input shares, by input and then index, from input k on
 abbrev pub share_variables : ℕ → ℕ → ℕ → List (List ℕ) → List Variable
@@ -49,7 +50,8 @@ share_variables line n k (stem ∷ stems) = shares_of_input line n k stem ++ sha
 -- the variables of the randoms, which a line lists, from random k on
 abbrev pub random_variables : ℕ → ℕ → List (List ℕ) → List Variable
 random_variables line k [] = []
-random_variables line k (name ∷ names) = record { name = name; node = random k; line = line } ∷ random_variables line (k + 1) names
+random_variables line k (name ∷ names) =
+    record { name = name; node = random k; line = line } ∷ random_variables line (k + 1) names
 
 abbrev pub listed_randoms : Option Listed → List Variable
 listed_randoms None = []

@@ -4,7 +4,7 @@ ghost use Rattle.std.specs.Prelude.{◌≡◌, ◌≤◌, ℕ, List, All, length
 ghost use Rattle.gadget_limits.specs.Limits.{most_randoms};
 ghost use Rattle.gadget_text.specs.Errors.{Gives, Is, MemoryAside};
 ghost use Rattle.gadget_text.specs.Limits.{most_file_bytes};
-ghost use Rattle.gadget_text.specs.Places.{IsWithin, text_in, lines_in};
+ghost use Rattle.gadget_text.specs.Places.{LiesWithin, text_in, lines_in};
 ghost use Rattle.gadget_headers.specs.Limits.{KeepsLimits, stems_of};
 ghost use Rattle.gadget_headers.specs.Seen.{preamble_in, listed_in, AreHeadersWithin};
 ghost use Rattle.gadget_tree.specs.File.{file_lines, FileSays, flat_gadget};
@@ -25,14 +25,14 @@ use std::alloc::{AllocError, Global};
 fn file_tokens(alloc: Global, bytes: &[u8]) -> Result<Vec<Token>, FileError>
     requires { length bytes.now ≤ most_file_bytes }
     ensures says { Gives (λ v. lines_in bytes.now v.items) result (MemoryAside (Is (file_lines bytes.now))) }
-    ensures within { IfOk result (λ v. All (IsWithin (length bytes.now)) v.items) }
+    ensures within { IfOk result (λ v. All (LiesWithin (length bytes.now)) v.items) }
 {
     Ok(tokens(alloc, bytes)?)
 }
 
 // The words as names.
 fn names(alloc: Global, bytes: &[u8], words: &[Token]) -> Result<Vec<Name>, AllocError>
-    requires { All (IsWithin (length bytes.now)) words.now }
+    requires { All (LiesWithin (length bytes.now)) words.now }
     ensures { IfOk result (λ v. v.items ≡ map (text_in bytes.now) words.now) }
 {
     let mut names = Vec::new(alloc);
@@ -74,8 +74,9 @@ fn flat_gadget(
     }))
 }
 
-/// The gadget that a file says, or its first offence. Time is linear in the file's length and that of the gadget's names,
-/// times the logarithm of how many variables there are; the names of the headers, at most 224, are held each against each.
+/// The gadget that a file says, or its first offence. Time is linear in the file's length and that of the gadget's
+/// names, times the logarithm of how many variables there are; the names of the headers, at most 224, are held each
+/// against each.
 pub fn read_gadget(alloc: Global, bytes: &[u8]) -> Result<Gadget, FileError>
     requires { length bytes.now ≤ most_file_bytes }
     ensures { Gives (λ g. g) result (MemoryAside (FileSays bytes.now)) }

@@ -1,6 +1,7 @@
 //! Gadgets: masked circuits, written flat.
 
 ghost use Rattle.std.specs.Prelude.{◌≤◌, ◌≡◌, ℕ, ◌+◌, ◌*◌, ◌/◌, ◌%◌, ◌<◌, map, length, slice_index, All, Option};
+ghost use Rattle.gadget_limits.specs.Limits.{most_shares, most_inputs, most_outputs};
 ghost use Rattle.gadget_model.specs.Circuit.{Circuit};
 ghost use Rattle.gadget_tree.specs.Seen.{variables_of};
 ghost use Rattle.gadget_tree.specs.Gadgets.{IsGadget, HasShareOf, IsOutOf};
@@ -73,7 +74,7 @@ impl Gadget {
     pub fn shares(&self) -> u8
         ensures shares { result ≡ self.now.shares }
         ensures some { 1 ≤ result }
-        ensures few { result ≤ 16 }
+        ensures few { result ≤ most_shares }
     {
         self.shares
     }
@@ -88,7 +89,7 @@ impl Gadget {
     /// The names of the inputs.
     pub fn inputs(&self) -> &[Name]
         ensures inputs { result.now ≡ self.now.inputs }
-        ensures few { length result.now ≤ 4 }
+        ensures few { length result.now ≤ most_inputs }
     {
         &self.inputs
     }
@@ -96,12 +97,13 @@ impl Gadget {
     /// The names of the outputs.
     pub fn outputs(&self) -> &[Name]
         ensures outputs { result.now ≡ self.now.outputs }
-        ensures few { length result.now ≤ 2 }
+        ensures few { length result.now ≤ most_outputs }
     {
         &self.outputs
     }
 
-    /// The variables: the input shares by input and index, the randoms, and then the operations, in an order of evaluation.
+    /// The variables: the input shares by input and index, the randoms, and then the operations, in an order of
+    /// evaluation.
     pub fn vars(&self) -> &[Var]
         ensures variables { variables_of result.now ≡ self.now.variables }
         ensures gadget { IsGadget self.now }

@@ -1,7 +1,8 @@
 //! The variables of the headers.
 
 ghost use Rattle.std.specs.Prelude.{ℕ, All, ◌≡◌, ◌≤◌, ◌<◌, ◌++◌, IfOk, OnOk, length, map, option_map};
-ghost use Rattle.gadget_text.specs.Places.{IsWithin, text_in};
+ghost use Rattle.gadget_limits.specs.Limits.{most_shares, most_inputs, most_randoms};
+ghost use Rattle.gadget_text.specs.Places.{LiesWithin, text_in};
 ghost use Rattle.gadget_headers.specs.Limits.{KeepsLimits};
 ghost use Rattle.gadget_headers.specs.Seen.{preamble_in, AreHeadersWithin};
 ghost use Rattle.gadget_tree.specs.Variables.{shares_of_input, share_variables, random_variables, header_variables};
@@ -23,8 +24,9 @@ fn push_shares(
     input: u8,
     stem: &[u8],
 ) -> Result<(), AllocError>
-    requires { shares ≤ 16 }
-    ensures { OnOk result (variables_of vars.new.items ≡ variables_of vars.old.items ++ shares_of_input line shares input stem.now) }
+    requires { shares ≤ most_shares }
+    ensures { OnOk result (
+        variables_of vars.new.items ≡ variables_of vars.old.items ++ shares_of_input line shares input stem.now) }
 {
     for index in 0..shares {
         vars.push(Var {
@@ -43,10 +45,11 @@ fn share_vars(
     shares: u8,
     inputs: Stems<'_>,
 ) -> Result<Vec<Var>, AllocError>
-    requires within { All (IsWithin (length bytes.now)) inputs.words.now }
-    requires few { length inputs.words.now ≤ 4 }
-    requires few_shares { shares ≤ 16 }
-    ensures { IfOk result (λ v. variables_of v.items ≡ share_variables inputs.entry.line shares 0 (map (text_in bytes.now) inputs.entry.words.now)) }
+    requires within { All (LiesWithin (length bytes.now)) inputs.words.now }
+    requires few { length inputs.words.now ≤ most_inputs }
+    requires few_shares { shares ≤ most_shares }
+    ensures { IfOk result (λ v. variables_of v.items
+        ≡ share_variables inputs.entry.line shares 0 (map (text_in bytes.now) inputs.entry.words.now)) }
 {
     let mut vars = Vec::new(alloc);
     for (input, stem) in inputs.words.iter().enumerate() {
@@ -70,9 +73,10 @@ fn extend_randoms(
     line: u32,
     randoms: &[Token],
 ) -> Result<(), AllocError>
-    requires within { All (IsWithin (length bytes.now)) randoms.now }
-    requires few { length randoms.now ≤ 128 }
-    ensures { OnOk result (variables_of vars.new.items ≡ variables_of vars.old.items ++ random_variables line 0 (map (text_in bytes.now) randoms.now)) }
+    requires within { All (LiesWithin (length bytes.now)) randoms.now }
+    requires few { length randoms.now ≤ most_randoms }
+    ensures { OnOk result (variables_of vars.new.items
+        ≡ variables_of vars.old.items ++ random_variables line 0 (map (text_in bytes.now) randoms.now)) }
 {
     for (place, random) in randoms.iter().enumerate() {
         vars.push(Var {

@@ -8,12 +8,11 @@ ghost use Rattle.gadget_text.specs.declared.file_error.FileError.{FileError};
 ghost use Rattle.gadget_text.specs.declared.file_error.FileError.TheVariants.{OutOfMemory};
 ghost use Rattle.gadget_headers.specs.Headers.{Preamble, preamble_of};
 ghost use Rattle.gadget_grammar.specs.Grammar.{Tree, IsAssignment};
-ghost use Rattle.gadget_grammar.specs.Steps.{tree_value};
 ghost use Rattle.gadget_tree.specs.Variables.{names_of, header_variables};
 ghost use Rattle.gadget_tree.specs.Operations.{line_names, line_parts};
 ghost use Rattle.gadget_tree.specs.File.{FileSays};
 ghost use Rattle.gadget_tree.specs.Gadgets.{IsGadget};
-ghost use Rattle.gadget_tree.specs.Values.{value_named, meaning_in};
+ghost use Rattle.gadget_tree.specs.Values.{value_named, HasPart};
 ghost use Rattle.gadget_tree.specs.Wires.{AreWires};
 ghost use Rattle.gadget_tree.specs.Canonical.{canonical_text, AreEqualButForLines};
 
@@ -25,24 +24,29 @@ pub fn reading_law()
     ensures gadget { (bytes : List ℕ) (g : Circuit) → FileSays bytes (Ok g) → IsGadget g }
 {}
 
-/// The values of a file's names, for inputs x and an assignment r of the randoms: input shares and randoms have theirs, and each
-/// variable that a line makes has the value of its part of the line's tree, where the names in the tree have theirs.
+/// The values of a file's names, for inputs x and an assignment r of the randoms: input shares and randoms have theirs,
+/// and each variable that a line makes has the value of its part of the line's tree, where the names in the tree have
+/// theirs.
 pub fn value_law()
-    ensures shares_and_randoms { (bytes : List ℕ) (g : Circuit) (h : Preamble) (x : ℕ → Bool) (r : List Bool) → FileSays bytes (Ok g) → preamble_of (token_lines bytes) ≡ Ok h →
+    ensures shares_and_randoms { (bytes : List ℕ) (g : Circuit) (h : Preamble) (x : ℕ → Bool) (r : List Bool) →
+        FileSays bytes (Ok g) → preamble_of (token_lines bytes) ≡ Ok h →
         All (λ v. value_named g x r v.name ≡ value_of x r (λ _. false) v.node) (header_variables h) }
-    ensures lines { (bytes : List ℕ) (g : Circuit) (line : TokenLine) (name : List ℕ) (tree : Tree) (x : ℕ → Bool) (r : List Bool) →
+    ensures lines { (bytes : List ℕ) (g : Circuit) (line : TokenLine) (name : List ℕ) (tree : Tree) →
+        (x : ℕ → Bool) (r : List Bool) →
         FileSays bytes (Ok g) → Contains (token_lines bytes) line → IsAssignment line.lexemes name tree →
-        AllZip (λ n part. value_named g x r n ≡ tree_value (meaning_in g x r) part) (line_names name tree) (line_parts tree) }
+        AllZip (HasPart g x r) (line_names name tree) (line_parts tree) }
 {}
 
-/// The wires of a file's gadget, by their names: the input shares and randoms, and then one for each operation of each line, or for
-/// its copy. There are no others.
+/// The wires of a file's gadget, by their names: the input shares and randoms, and then one for each operation of each
+/// line, or for its copy. There are no others.
 pub fn wires_law()
-    ensures { (bytes : List ℕ) (g : Circuit) (h : Preamble) → FileSays bytes (Ok g) → preamble_of (token_lines bytes) ≡ Ok h →
+    ensures { (bytes : List ℕ) (g : Circuit) (h : Preamble) →
+        FileSays bytes (Ok g) → preamble_of (token_lines bytes) ≡ Ok h →
         AreWires (names_of (header_variables h)) h.lines (names_of g.variables) }
 {}
 
 /// The canonical text of a gadget reads again as the same gadget, apart from the lines of its variables.
 pub fn canonical_law()
-    ensures { (g : Circuit) → IsGadget g → (h : Circuit) × FileSays (canonical_text g) (Ok h) × AreEqualButForLines g h }
+    ensures { (g : Circuit) → IsGadget g →
+        (h : Circuit) × FileSays (canonical_text g) (Ok h) × AreEqualButForLines g h }
 {}

@@ -4,7 +4,7 @@ ghost use Rattle.std.specs.Prelude.{◌≡◌, ◌<◌, ◌≤◌, ◌+◌, ◌+
 ghost use Rattle.std.specs.List.{list_any};
 ghost use Rattle.gadget_limits.specs.Limits.{most_variables};
 ghost use Rattle.gadget_text.specs.Errors.{Gives, Is, MemoryAside};
-ghost use Rattle.gadget_text.specs.Places.{IsWithin, lexemes_in, line_of, lines_in};
+ghost use Rattle.gadget_text.specs.Places.{LiesWithin, lexemes_in, line_of, lines_in};
 ghost use Rattle.gadget_headers.specs.Headers.{header_of};
 ghost use Rattle.gadget_grammar.specs.Grammar.{Tree};
 ghost use Rattle.gadget_grammar.specs.Seen.{IsStepWithin, steps_in};
@@ -100,7 +100,7 @@ fn with_line(
     line: &LineTokens<'_>,
     variables: Variables,
 ) -> Result<Variables, FileError>
-    requires within { All (IsWithin (length bytes.now)) line.now.tokens.now }
+    requires within { All (LiesWithin (length bytes.now)) line.now.tokens.now }
     requires some { 0 < length line.now.tokens.now }
     ensures { Gives (λ v. v) result (MemoryAside (LineSays variables (line_of bytes.now line.now))) }
 {
@@ -112,16 +112,16 @@ fn with_line(
     with_steps(alloc, bytes, line.line, name, &says.steps, variables)
 }
 
-/// The variables after the lines to which these tokens belong, or the first offence in them. Time is linear in the length
-/// of the lines and of the names that they make, but for look-ups, which are logarithmic in how many variables there are,
-/// and for each line a look at each variable.
+/// The variables after the lines to which these tokens belong, or the first offence in them. Time is linear in the
+/// length of the lines and of the names that they make, but for look-ups, which are logarithmic in how many variables
+/// there are, and for each line a look at each variable.
 pub(crate) fn with_lines(
     alloc: Global,
     bytes: &[u8],
     tokens: &[Token],
     variables: Variables,
 ) -> Result<Variables, FileError>
-    requires within { All (IsWithin (length bytes.now)) tokens.now }
+    requires within { All (LiesWithin (length bytes.now)) tokens.now }
     ensures { Gives (λ v. v) result (MemoryAside (LinesSay variables (lines_in bytes.now tokens.now))) }
 {
     let mut rest = tokens;

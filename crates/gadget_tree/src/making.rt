@@ -3,6 +3,7 @@
 ghost use Rattle.std.specs.Prelude.{◌≡◌, ◌≤◌, ◌<◌, ◌+◌, ◌++◌, All, IfOk, OnOk, length, map, reverse, [], ◌∷◌};
 ghost use Rattle.gadget_grammar.specs.Grammar.{Tree};
 ghost use Rattle.gadget_grammar.specs.Steps.{postfix};
+ghost use Rattle.gadget_limits.specs.Limits.{most_variables};
 ghost use Rattle.gadget_grammar.specs.Seen.{IsStepWithin, step_in, steps_in};
 ghost use Rattle.gadget_tree.specs.Made.{operation_count, operand_count, count_made, with_node, after_step, after_steps, start, finished, nodes_made, making_of};
 ghost use Rattle.gadget_tree.specs.Seen.{node_of};
@@ -45,8 +46,9 @@ impl Making {
 
     // Makes one more variable, which waits, where the first one made has the number `base`.
     fn put(&mut self, base: usize, kind: VarKind) -> Result<(), AllocError>
-        requires { base + length self.old.kinds.items < 512 }
-        ensures { OnOk result (making_of self.new ≡ with_node base (making_of self.old).stack (making_of self.old).nodes (node_of kind)) }
+        requires { base + length self.old.kinds.items ≤ most_variables }
+        ensures { OnOk result (making_of self.new
+            ≡ with_node base (making_of self.old).stack (making_of self.old).nodes (node_of kind)) }
     {
         let number = (base + self.kinds.len()) as u16;
         self.kinds.push(kind)?;
@@ -57,9 +59,10 @@ impl Making {
     // Goes one step on.
     fn advance(&mut self, bytes: &[u8], variables: &Variables, step: Step) -> Result<(), AllocError>
         requires within { IsStepWithin (length bytes.now) step }
-        requires room { length variables.now + length self.old.kinds.items < 512 }
+        requires room { length variables.now + length self.old.kinds.items ≤ most_variables }
         requires operands { operand_count (step_in bytes.now step) ≤ length self.old.stack.items }
-        ensures { OnOk result (making_of self.new ≡ after_step (place_of (names_of variables.now)) (length variables.now) (making_of self.old) (step_in bytes.now step)) }
+        ensures { OnOk result (making_of self.new ≡ after_step
+            (place_of (names_of variables.now)) (length variables.now) (making_of self.old) (step_in bytes.now step)) }
     {
         let base = variables.len();
         match step {
@@ -94,7 +97,8 @@ impl Making {
     }
 }
 
-/// The kinds of the variables that a line with the steps of a tree makes, in post-order, where these are the variables before it.
+/// The kinds of the variables that a line with the steps of a tree makes, in post-order, where these are the variables
+/// before it.
 pub(crate) fn kinds_made(
     alloc: Global,
     bytes: &[u8],
@@ -103,8 +107,9 @@ pub(crate) fn kinds_made(
 ) -> Result<Vec<VarKind>, AllocError>
     requires within { All (IsStepWithin (length bytes.now)) steps.now }
     requires tree { (tree : Tree) × (steps_in bytes.now steps.now ≡ postfix tree) }
-    requires room { length variables.now + count_made (steps_in bytes.now steps.now) ≤ 511 }
-    ensures { IfOk result (λ v. map node_of v.items ≡ nodes_made (place_of (names_of variables.now)) (length variables.now) (steps_in bytes.now steps.now)) }
+    requires room { length variables.now + count_made (steps_in bytes.now steps.now) ≤ most_variables }
+    ensures { IfOk result (λ v. map node_of v.items
+        ≡ nodes_made (place_of (names_of variables.now)) (length variables.now) (steps_in bytes.now steps.now)) }
 {
     let mut making = Making::new(alloc);
     for step in steps {

@@ -2,7 +2,7 @@
 
 ghost use Rattle.std.specs.Prelude.{◌≡◌, ◌+◌, ◌++◌, ◌<◌, All, length, drop, map, IfOk, OnOk};
 ghost use Rattle.std.specs.List.{range_with_len};
-ghost use Rattle.gadget_text.specs.Places.{IsWithin, text_in};
+ghost use Rattle.gadget_text.specs.Places.{LiesWithin, text_in};
 ghost use Rattle.gadget_tree.specs.Variables.{share_name, share_names, is_among, are_distinct};
 
 use crate::name::Name;
@@ -40,8 +40,9 @@ pub(crate) fn extend_share_names(
     shares: u8,
     stems: &[Token],
 ) -> Result<(), AllocError>
-    requires { All (IsWithin (length bytes.now)) stems.now }
-    ensures { OnOk result (names.new.items ≡ names.old.items ++ share_names shares (map (text_in bytes.now) stems.now)) }
+    requires { All (LiesWithin (length bytes.now)) stems.now }
+    ensures { OnOk result (
+        names.new.items ≡ names.old.items ++ share_names shares (map (text_in bytes.now) stems.now)) }
 {
     for stem in stems {
         push_share_names(alloc, names, shares, text(bytes, *stem))?;
@@ -56,7 +57,7 @@ pub(crate) fn extend_names(
     names: &mut Vec<Name>,
     words: &[Token],
 ) -> Result<(), AllocError>
-    requires { All (IsWithin (length bytes.now)) words.now }
+    requires { All (LiesWithin (length bytes.now)) words.now }
     ensures { OnOk result (names.new.items ≡ names.old.items ++ map (text_in bytes.now) words.now) }
 {
     for word in words {

@@ -1,7 +1,7 @@
 //! The numbers of variables in the order of their names, in which a name is found by halving.
 
 ghost use Rattle.std.specs.Prelude.{◌≡◌, ◌<◌, All, length, is_some, IfSome};
-ghost use Rattle.gadget_tree.specs.NameOrder.{compare_names, AreInOrder, IsRank, AreAllInOrder};
+ghost use Rattle.gadget_tree.specs.NameOrder.{compare_names, AreByName, IsRank, AreAllInOrder};
 ghost use Rattle.gadget_tree.specs.Seen.{variables_of};
 ghost use Rattle.gadget_tree.specs.Variables.{names_of, name_at, is_among, place_of};
 
@@ -23,11 +23,11 @@ fn compare(name: &[u8], other: &[u8]) -> Ordering
     name.iter().rev().cmp(other.iter().rev())
 }
 
-/// How many of these numbers, which stand in the order of their names, are of names that come before this one. They are halved again
-/// and again, and each comparison reads as many bytes as the two names share at their ends.
+/// How many of these numbers, which stand in the order of their names, are of names that come before this one. They are
+/// halved again and again, and each comparison reads as many bytes as the two names share at their ends.
 pub(crate) fn rank(vars: &[Var], numbers: &[u16], name: &[u8]) -> usize
     requires below { All (λ k. k < length vars.now) numbers.now }
-    requires in_order { AreInOrder (variables_of vars.now) numbers.now }
+    requires in_order { AreByName (variables_of vars.now) numbers.now }
     ensures { IsRank (variables_of vars.now) numbers.now name.now result }
 {
     let mut low = 0;

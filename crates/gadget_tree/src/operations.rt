@@ -2,7 +2,7 @@
 
 ghost use Rattle.std.specs.Prelude.{◌≡◌, ℕ, List, All, length};
 ghost use Rattle.std.specs.List.{list_all};
-ghost use Rattle.gadget_text.specs.Places.{IsWithin, text_in};
+ghost use Rattle.gadget_text.specs.Places.{LiesWithin, text_in};
 ghost use Rattle.gadget_grammar.specs.Seen.{IsStepWithin, step_in, steps_in};
 ghost use Rattle.gadget_tree.specs.Made.{operation_count, count_made, is_known};
 ghost use Rattle.gadget_tree.specs.Variables.{names_of};

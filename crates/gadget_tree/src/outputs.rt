@@ -24,7 +24,8 @@ fn push_shares(
     stem: &[u8],
 ) -> Result<(), FileError>
     ensures says {
-        Gives (λ _. tt) result (MemoryAside (Is (check_shares variables.now (shares_of_output shares output stem.now)))) }
+        Gives (λ _. tt) result
+        (MemoryAside (Is (check_shares variables.now (shares_of_output shares output stem.now)))) }
     ensures numbers { OnOk result (numbers.new.items ≡ numbers.old.items
         ++ map (place_of (names_of variables.now)) (map (share_name stem.now) (range_with_len 0 shares))) }
 {

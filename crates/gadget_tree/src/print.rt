@@ -13,11 +13,12 @@ use crate::var::{Var, VarKind};
 use mask_bytes::OutOfMemory;
 use std::alloc::Global;
 
-/// The canonical text of a gadget: its headers, and then each operation on a line of its own. It reads again as the same gadget,
-/// apart from the lines of its variables.
+/// The canonical text of a gadget: its headers, and then each operation on a line of its own. It reads again as the same
+/// gadget, apart from the lines of its variables.
 pub fn print_gadget(alloc: Global, gadget: &Gadget) -> Result<Vec<u8>, OutOfMemory>
     ensures text { IfOk result (λ text. text.items ≡ canonical_text gadget.now) }
-    ensures reads_again { IfOk result (λ text. (h : Circuit) × FileSays text.items (Ok h) × AreEqualButForLines gadget.now h) }
+    ensures reads_again { IfOk result (λ text.
+        (h : Circuit) × FileSays text.items (Ok h) × AreEqualButForLines gadget.now h) }
 {
     let vars = gadget.vars();
     let mut text = shares_line(alloc, gadget.shares())?;
@@ -56,7 +57,8 @@ fn add_word(text: &mut Vec<u8>, word: &[u8]) -> Result<(), OutOfMemory>
 
 // Adds the line of the randoms, where there are any.
 fn add_randoms(alloc: Global, text: &mut Vec<u8>, vars: &[Var]) -> Result<(), OutOfMemory>
-    ensures { OnOk result (text.new.items ≡ text.old.items ++ printed_lines (randoms_line (randoms_among (variables_of vars.now)))) }
+    ensures { OnOk result (text.new.items
+        ≡ text.old.items ++ printed_lines (randoms_line (randoms_among (variables_of vars.now)))) }
 {
     let words = random_words(alloc, vars)?;
     if words.is_empty() {
@@ -80,7 +82,8 @@ fn random_words(alloc: Global, vars: &[Var]) -> Result<Vec<u8>, OutOfMemory>
 
 // Adds the name of a variable, where it is a random.
 fn add_random(text: &mut Vec<u8>, var: &Var) -> Result<(), OutOfMemory>
-    ensures { OnOk result (text.new.items ≡ text.old.items ++ printed_words (random_name var.now.name (node_of var.now.kind))) }
+    ensures { OnOk result (text.new.items
+        ≡ text.old.items ++ printed_words (random_name var.now.name (node_of var.now.kind))) }
 {
     match var.kind {
         VarKind::Random(_) => add_word(text, var.name.bytes()),
@@ -92,7 +95,8 @@ fn add_random(text: &mut Vec<u8>, var: &Var) -> Result<(), OutOfMemory>
 
 // Adds the lines of the operations.
 fn add_operations(text: &mut Vec<u8>, gadget: &Gadget) -> Result<(), OutOfMemory>
-    ensures { OnOk result (text.new.items ≡ text.old.items ++ printed_lines (operations_among gadget.now.variables gadget.now.variables)) }
+    ensures { OnOk result (text.new.items
+        ≡ text.old.items ++ printed_lines (operations_among gadget.now.variables gadget.now.variables)) }
 {
     let all = gadget.vars();
     for var in all {
@@ -104,7 +108,8 @@ fn add_operations(text: &mut Vec<u8>, gadget: &Gadget) -> Result<(), OutOfMemory
 // Adds the line of a variable, where it is an operation on these.
 fn add_operation(text: &mut Vec<u8>, vars: &[Var], var: &Var) -> Result<(), OutOfMemory>
     requires { (randoms : ℕ) × NamesEarlier randoms (length vars.now) (node_of var.now.kind) }
-    ensures { OnOk result (text.new.items ≡ text.old.items ++ printed_lines (operation_line (variables_of vars.now) var.now.name (node_of var.now.kind))) }
+    ensures { OnOk result (text.new.items ≡ text.old.items
+        ++ printed_lines (operation_line (variables_of vars.now) var.now.name (node_of var.now.kind))) }
 {
     match var.kind {
         VarKind::Share { .. } | VarKind::Random(_) => Ok(()),
@@ -144,7 +149,8 @@ fn add_binary(
     sign: u8,
     b: &[u8],
 ) -> Result<(), OutOfMemory>
-    ensures { OnOk result (text.new.items ≡ text.old.items ++ printed_line (name.now ∷ codes "=" ∷ a.now ∷ (sign ∷ []) ∷ b.now ∷ [])) }
+    ensures { OnOk result (text.new.items ≡ text.old.items
+        ++ printed_line (name.now ∷ codes "=" ∷ a.now ∷ (sign ∷ []) ∷ b.now ∷ [])) }
 {
     text.extend_from_slice(name)?;
     add_word(text, b"=")?;

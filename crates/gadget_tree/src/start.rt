@@ -28,7 +28,8 @@ fn with_shares(
 ) -> Result<Vec<Name>, FileError>
     requires { AreWordsWithin (length bytes.now) stems }
     ensures {
-        Gives (λ v. v.items) result (MemoryAside (Is (distinct_shares names.items shares (listed_in bytes.now stems.entry)))) }
+        Gives (λ v. v.items) result
+        (MemoryAside (Is (distinct_shares names.items shares (listed_in bytes.now stems.entry)))) }
 {
     extend_share_names(alloc, bytes, &mut names, shares, stems.words)?;
     if !are_distinct(&names) {
@@ -46,7 +47,8 @@ fn with_randoms(
 ) -> Result<Vec<Name>, FileError>
     requires { IfSome randoms (AreWordsWithin (length bytes.now)) }
     ensures {
-        Gives (λ v. v.items) result (MemoryAside (Is (distinct_randoms names.items (option_map (listed_in bytes.now) randoms.entry)))) }
+        Gives (λ v. v.items) result
+        (MemoryAside (Is (distinct_randoms names.items (option_map (listed_in bytes.now) randoms.entry)))) }
 {
     let Some(randoms) = randoms else {
         return Ok(names);

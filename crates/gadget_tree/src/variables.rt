@@ -1,6 +1,7 @@
 //! The variables so far, found by their names.
 
 ghost use Rattle.std.specs.Prelude.{◌≡◌, ◌≤◌, ◌<◌, ◌++◌, ◌∷◌, [], Bool, false, is_some, length, IfOk, IfSome};
+ghost use Rattle.gadget_limits.specs.Limits.{most_variables};
 ghost use Rattle.gadget_tree.specs.Seen.{variable_of, variables_of};
 ghost use Rattle.gadget_tree.specs.Variables.{names_of, is_among, place_of};
 
@@ -9,7 +10,7 @@ use crate::var::Var;
 use std::alloc::{AllocError, Global};
 use std::marker::Model;
 
-/// The variables so far, at most 511. Contracts see the model's list of them.
+/// The variables so far, at most `MOST_VARIABLES`. Contracts see the model's list of them.
 #[derive(Drop)]
 pub(crate) struct Variables {
     vars: Vec<Var>,
@@ -24,11 +25,13 @@ impl Model for Variables {
     ghost Value = { List Variable };
 
     ghost use Rattle.gadget_tree.specs.Seen.{variables_of};
+    ghost use Rattle.gadget_limits.specs.Limits.{most_variables};
     ghost use Rattle.gadget_tree.specs.NameOrder.{AreAllInOrder};
 
     ghost view = { λ s. variables_of s.vars.items };
 
-    ghost invariant = { λ s. AreAllInOrder (variables_of s.vars.items) s.numbers.items × (length s.vars.items ≤ 511) };
+    ghost invariant = { λ s.
+        AreAllInOrder (variables_of s.vars.items) s.numbers.items × (length s.vars.items ≤ most_variables) };
 }
 
 impl Variables {
@@ -45,12 +48,13 @@ impl Variables {
     /// How many there are.
     pub(crate) fn len(&self) -> usize
         ensures len { result ≡ length self.now }
-        ensures few { result ≤ 511 }
+        ensures few { result ≤ most_variables }
     {
         self.vars.len()
     }
 
-    /// The number of the variable with a name. Time is logarithmic in how many there are, times the bytes at which names end alike.
+    /// The number of the variable with a name. Time is logarithmic in how many there are, times the bytes at which names
+    /// end alike.
     pub(crate) fn number(&self, name: &[u8]) -> Option<u16>
         ensures among { is_some result ≡ is_among (names_of self.now) name.now }
         ensures place { IfSome result (λ k. k ≡ place_of (names_of self.now) name.now) }
@@ -76,7 +80,7 @@ impl Variables {
     /// These variables, and behind them one more.
     pub(crate) fn with(self, var: Var) -> Result<Variables, AllocError>
         requires fresh { is_among (names_of self) var.name ≡ false }
-        requires room { length self < 511 }
+        requires room { length self < most_variables }
         ensures { IfOk result (λ s. s ≡ self ++ variable_of var ∷ []) }
     {
         let Variables {

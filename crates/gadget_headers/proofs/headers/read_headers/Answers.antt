@@ -1,7 +1,7 @@
 use Rattle.std.proofs.Common.{sym, ap, ◌∙◌, length}
 use Rattle.std.specs.Prelude.{Result}
 use Rattle.std.proofs.lemmas.Result.{IfOk-weaker}
-use Rattle.gadget_text.specs.Places.{IsWithin, lines_in}
+use Rattle.gadget_text.specs.Places.{LiesWithin, lines_in}
 use Rattle.gadget_text.specs.declared.file_error.FileError.{FileError}
 use Rattle.gadget_text.specs.Errors.{◌>>=◌}
 use Rattle.gadget_headers.specs.Headers.{SoFar, preamble_of, headers_from, end_headers}
@@ -32,7 +32,7 @@ pub with_header-requires : goal.with_header-requires
 with_header-requires c =
     let tokens = c.args.tokens.now in
     let line = c.in-Some.line in
-    piece_all tokens (IsWithin (length c.args.bytes.now)) line.words.now
+    piece_all tokens (LiesWithin (length c.args.bytes.now)) line.words.now
     (words_piece tokens c.in-Some.ensures.parts.0 line.words.now line.rest.now c.loop-line.rest.now c.in-Some.ensures.parts.1 c.loop-line.invariant.rest) c.requires.within
 
 pub loop-line-preserved : goal.loop-line-preserved

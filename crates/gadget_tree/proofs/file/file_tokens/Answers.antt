@@ -1,5 +1,5 @@
 use Rattle.gadget_text.proofs.Within.{tokens_within}
-use Rattle.gadget_tree.proofs.Saying.{text_read, text_named}
+use Rattle.gadget_tree.proofs.Saying.{text_read}
 use Rattle.gadget_tree.proofs.file.file_tokens.Goals as goal
 
 pub returns-clause-says : goal.returns-clause-says
