@@ -4,17 +4,18 @@ ghost use Rattle.std.specs.Prelude.{◌≡◌, ◌≤◌, ◌<◌, ◌^◌, leng
 ghost use Rattle.std.specs.List.{All};
 ghost use Rattle.gf2_rows.specs.Combinations.{most_rows, Cancels, AreIndependent, SpanCancelling};
 
+use crate::MOST_ROWS;
 use crate::kernels::Kernel;
-use crate::mask_list::MaskList;
 use crate::row_stack::RowStack;
+use arrayvec::ArrayVec;
 
 // Pushes the rows onto an empty stack, and keeps each mask that this finds.
-fn eliminate(rows: &[u128], stack: &mut RowStack, found: &mut MaskList)
+fn eliminate(rows: &[u128], stack: &mut RowStack, found: &mut ArrayVec<u64, MOST_ROWS>)
     requires { length rows.now ≤ most_rows }
-    ensures below { All (λ mask. mask < 2 ^ length rows.now) found.new }
-    ensures cancel { All (Cancels rows.now) found.new }
-    ensures independent { AreIndependent found.new }
-    ensures whole { SpanCancelling rows.now found.new }
+    ensures below { All (λ mask. mask < 2 ^ length rows.now) found.new.items }
+    ensures cancel { All (Cancels rows.now) found.new.items }
+    ensures independent { AreIndependent found.new.items }
+    ensures whole { SpanCancelling rows.now found.new.items }
 {
     stack.truncate(0);
     found.clear();

@@ -3,7 +3,6 @@
 
 mod elimination;
 mod kernels;
-mod mask_list;
 mod pivots;
 mod row_stack;
 

@@ -4,8 +4,8 @@ ghost use Rattle.std.specs.Prelude.{◌≡◌, ◌<◌, ◌++◌, ◌∷◌, [],
 ghost use Rattle.gf2_rows.specs.Combinations.{most_rows};
 ghost use Rattle.gf2_rows.specs.Newest.{NewlyCancels};
 
-use crate::{MOST_PREFIXES, MOST_ROWS};
 use crate::pivots::{Combination, Pivot, reduced};
+use crate::{MOST_PREFIXES, MOST_ROWS};
 use std::marker::Model;
 
 /// A list of at most 64 rows, with what their elimination found. A row more takes the time of one
