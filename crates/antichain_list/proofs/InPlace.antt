@@ -1,5 +1,5 @@
 -- A walk that moves the picked elements of a list to its start.
-use Rattle.std.proofs.Common.{◌≡◌, ℕ, ◌+◌, ◌<◌, ◌≤◌, List, [], ◌∷◌, ◌++◌, length, take, take_all, drop, set, get_or, Some, refl, ap, sym, ◌∙◌, arith, subst}
+use Rattle.std.proofs.Common.{◌≡◌, ℕ, ◌+◌, ◌<◌, ◌≤◌, List, [], ◌∷◌, ◌++◌, length, take, take_all, drop, set, get_or, Some, ap, sym, ◌∙◌, arith, subst}
 use Rattle.std.specs.List.{All, slice_get}
 use Rattle.std.proofs.lemmas.List.{length-set, drop-set-lt, take_more_set, get_or-drop}
 use Rattle.std.proofs.lemmas.Grind.{drop_more_same}
@@ -16,7 +16,7 @@ pub record PicksInPlace {X : Type 0} (P : X → Type 0) (xs ys : List X) (kept p
 
 -- the element at the place is as it was
 same_there : {X : Type 0} (P : X → Type 0) (xs ys : List X) (kept place : ℕ) → PicksInPlace P xs ys kept place → (d : X) → get_or ys place d ≡ get_or xs place d
-same_there {X} P xs ys kept place h d = 
+same_there {X} P xs ys kept place h d =
     let z : place + 0 ≡ place = omega arith in
     ap (λ (k : ℕ). get_or ys k d) (sym z)
     ∙ sym (get_or-drop place ys 0 d)

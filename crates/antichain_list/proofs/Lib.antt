@@ -1,0 +1,6 @@
+pub mod Least
+pub mod InPlace
+pub mod Coded
+pub mod Lookup
+pub mod Adding
+pub mod Joining

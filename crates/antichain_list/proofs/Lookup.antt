@@ -1,11 +1,11 @@
 -- The first subset of a tuple in a list is that with the least of the codes of all subsets that the list has.
-use Rattle.std.proofs.Common.{◌≡◌, ℕ, ◌^◌, ◌<◌, ◌≤◌, ◌⊎◌, List, map, length, length-take-le, take, get_or, Some, None, ap, sym, ◌∙◌, inl, inr, arith, subst, Contains}
+use Rattle.std.proofs.Common.{◌≡◌, ℕ, ◌^◌, ◌<◌, ◌≤◌, List, map, length, length-take-le, take, get_or, Some, None, ap, sym, ◌∙◌, inl, inr, arith, subst, Contains}
 use Rattle.std.proofs.lemmas.Bool.{cases_lt}
 use Rattle.std.proofs.lemmas.List.{get_or_default, get_or-take}
 use Rattle.std.proofs.lemmas.List.Elements.{All-contains}
-use Rattle.list_laws.proofs.Members.{Contains-map, Contains-from_map}
+use Rattle.list_laws.proofs.Members.{Contains-map}
 use Rattle.tuple_model.specs.Limits.{most_items, most_size}
-use Rattle.tuple_model.specs.Tuples.{IsTuple, IsSubset, IsBefore, subset}
+use Rattle.tuple_model.specs.Tuples.{IsTuple, IsSubset, subset}
 use Rattle.tuple_model.specs.Antichains.{Covers}
 use Rattle.tuple_model.proofs.Subsets.{IsTuple-subset, member-from_subset, subset-from_members}
 use Rattle.tuple_order.specs.Codes.{code_of, tuple_of_code}

@@ -1,9 +1,30 @@
--- How a list of tuples is held: as their codes.
-use Rattle.std.specs.Prelude.{◌≡◌, ℕ, List, map}
+-- How a list of tuples is held: as their codes, which rise.
+use Rattle.std.specs.Prelude.{◌≡◌, ◌<◌, ◌≤◌, ℕ, List, Option, Some, None, All, Contains, map}
+use Rattle.tuple_model.specs.Limits.{most_items, most_size}
+use Rattle.tuple_model.specs.Tuples.{IsTuple, IsSubset}
 use Rattle.tuple_model.specs.Antichains.{IsAntichain}
 use Rattle.tuple_order.specs.Codes.{code_of, tuple_of_code}
 
+-- the number is the code of a tuple
+pub record IsCode (code : ℕ) : Type 0 where
+  pub tuple : IsTuple most_items most_size (tuple_of_code code)
+  pub same : code_of (tuple_of_code code) ≡ code
+
 -- the numbers are the codes of an antichain's tuples
 pub record AreCodes (codes : List ℕ) : Type 0 where
-  pub coded : map code_of (map tuple_of_code codes) ≡ codes
+  pub coded : All IsCode codes
   pub antichain : IsAntichain (map tuple_of_code codes)
+
+-- the least number that stands in both lists, where there is one
+abbrev pub IsLeastOfBoth : List ℕ → List ℕ → Option ℕ → Type 0
+IsLeastOfBoth xs ys None = (n : ℕ) → Contains xs n → Contains ys n → ⊥
+IsLeastOfBoth xs ys (Some least) = Contains xs least × Contains ys least × ((n : ℕ) → Contains xs n → Contains ys n → least ≤ n)
+
+-- the number is lower than the other, where there is another
+abbrev pub IsLower : ℕ → Option ℕ → Type 0
+IsLower n None = Unit {0}
+IsLower n (Some other) = n < other
+
+-- the code is that of no superset of the tuple
+abbrev pub IsNoSuperset : List ℕ → ℕ → Type 0
+IsNoSuperset t code = IsSubset t (tuple_of_code code) → ⊥

@@ -16,6 +16,19 @@ abbrev pub MatchAdded : List (List ℕ) → List (List ℕ) → List ℕ → Add
 MatchAdded before after t Kept = (Covers before t → ⊥) × Adds before t after
 MatchAdded before after t (Covered s) = IsFirstSubset before t s × (after ≡ before)
 
--- The list has those tuples of both of which no other tuple of either is a subset.
+-- the tuple stands in one of the lists
+abbrev pub InEither : List (List ℕ) → List (List ℕ) → List ℕ → Type 0
+InEither one other t = Contains one t ⊎ Contains other t
+
+-- the tuple stands in one of the lists, and no other tuple of either is a subset of it
+pub record IsMinimalOf (one other : List (List ℕ)) (t : List ℕ) : Type 0 where
+  pub listed : InEither one other t
+  pub minimal : (s : List ℕ) → InEither one other s → IsSubset s t → s ≡ t
+
+-- the list has exactly the minimal ones of the tuples of both
 abbrev pub Joins : List (List ℕ) → List (List ℕ) → List (List ℕ) → Type 0
-Joins one other joined = (t : List ℕ) → Covers joined t ↔ (Covers one t ⊎ Covers other t)
+Joins one other joined = (t : List ℕ) → Contains joined t ↔ IsMinimalOf one other t
+
+-- the list covers what either covers
+abbrev pub CoversBoth : List (List ℕ) → List (List ℕ) → List (List ℕ) → Type 0
+CoversBoth one other joined = (t : List ℕ) → Covers joined t ↔ (Covers one t ⊎ Covers other t)

@@ -1,10 +1,12 @@
 //! A list of tuples in order, none a subset of another.
 
-ghost use Rattle.std.specs.Prelude.{◌≡◌, List, [], ℕ, map, OnErr, OnOk, IfOk, IfSome, IfNone};
-ghost use Rattle.tuple_model.specs.Antichains.{Covers, IsAntichain};
-ghost use Rattle.tuple_order.specs.Codes.{code_of};
-ghost use Rattle.antichain_list.specs.Lists.{IsFirstSubset, Joins, MatchAdded};
+ghost use Rattle.std.specs.Prelude.{◌≡◌, List, [], ℕ, All, map, OnErr, OnOk, IfOk, IfSome, IfNone};
+ghost use Rattle.tuple_model.specs.Antichains.{Covers, CoversSame, IsAntichain};
+ghost use Rattle.tuple_order.specs.Codes.{code_of, tuple_of_code};
+ghost use Rattle.antichain_list.specs.Held.{IsCode};
+ghost use Rattle.antichain_list.specs.Lists.{IsFirstSubset, MatchAdded, Joins, CoversBoth};
 
+use crate::codes::{drop_supersets, least_held, place_of, subset_count, tuple_of};
 use mask_bytes::OutOfMemory;
 use std::alloc::Global;
 use std::marker::Model;
@@ -40,7 +42,6 @@ pub enum Added {
 impl Antichain {
     /// The empty list.
     pub fn new(alloc: Global) -> Antichain
-        requires stub { ⊥ }
         ensures { result ≡ [] }
     {
         Antichain {
@@ -50,7 +51,6 @@ impl Antichain {
 
     /// The codes of the tuples, in order.
     pub fn tuples(&self) -> &[u64]
-        requires stub { ⊥ }
         ensures codes { result.now ≡ map code_of self.now }
         ensures antichain { IsAntichain self.now }
     {
@@ -59,30 +59,60 @@ impl Antichain {
 
     /// The first tuple of the list that is a subset of `t`.
     pub fn covers(&self, t: &Tuple) -> Option<Tuple>
-        requires stub { ⊥ }
         ensures first { IfSome result (λ s. IsFirstSubset self.now t.now s) }
         ensures none { IfNone result (Covers self.now t.now → ⊥) }
     {
-        None
+        if self.codes.is_empty() {
+            return None;
+        }
+        let subsets = t.subset_codes();
+        let code = least_held(&self.codes, &subsets[..subset_count(t)])?;
+        Some(tuple_of(code))
     }
 
     /// Adds a tuple and takes out its supersets, unless the list has a subset of it.
     pub fn add(&mut self, t: Tuple) -> Result<Added, OutOfMemory>
-        requires stub { ⊥ }
         ensures refused { OnErr result (self.new ≡ self.old) }
         ensures added { IfOk result (λ added. MatchAdded self.old self.new t added) }
         ensures antichain { IsAntichain self.new }
     {
-        Err(OutOfMemory)
+        if let Some(s) = self.covers(&t) {
+            return Ok(Added::Covered(s));
+        }
+        let code = t.code();
+        let place = place_of(&self.codes, code);
+        // A refusal comes before anything is taken out.
+        self.codes.insert(place, code)?;
+        drop_supersets(&mut self.codes, place + 1, &t);
+        Ok(Added::Kept)
     }
 
     /// Leaves the minimal ones of the tuples of both lists.
     pub fn merge(&mut self, other: &Antichain) -> Result<(), OutOfMemory>
-        requires stub { ⊥ }
         ensures refused { OnErr result (self.new ≡ self.old) }
         ensures joined { OnOk result (Joins self.old other.now self.new) }
+        ensures covers { OnOk result (CoversBoth self.old other.now self.new) }
         ensures antichain { IsAntichain self.new }
     {
-        Err(OutOfMemory)
+        let alloc = *self.codes.allocator();
+        let mut codes = Vec::from_slice(alloc, &self.codes)?;
+        codes.extend_from_slice(&other.codes)?;
+        // In order, no tuple comes before a subset of it, so each that stays is added at the end.
+        codes.sort_unstable();
+        *self = minimal_of(alloc, &codes)?;
+        Ok(())
     }
+}
+
+// The minimal ones of the tuples with these codes.
+fn minimal_of(alloc: Global, codes: &[u64]) -> Result<Antichain, OutOfMemory>
+    requires { All IsCode codes.now }
+    ensures covers { IfOk result (λ list. CoversSame list (map tuple_of_code codes.now)) }
+    ensures antichain { IfOk result IsAntichain }
+{
+    let mut list = Antichain::new(alloc);
+    for code in codes {
+        list.add(tuple_of(*code))?;
+    }
+    Ok(list)
 }

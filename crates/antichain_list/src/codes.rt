@@ -51,7 +51,7 @@ fn is_lower(code: u64, least: Option<u64>) -> bool
     }
 }
 
-// Whether a code stands in the list. Most that don't come before its first or after its last.
+// Whether a code stands in the list. Most codes that it lacks come before its first or after its last.
 fn has(list: &[u64], code: u64) -> bool
     requires { IsNonDecreasing list.now }
     ensures { IsTrue result ↔ Contains list.now code }

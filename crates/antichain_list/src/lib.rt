@@ -2,6 +2,10 @@
 #![tactic(auto)]
 
 mod antichain;
+mod codes;
 mod readers;
 
 pub use antichain::{Added, Antichain};
+
+#[cfg(test)]
+mod tests;

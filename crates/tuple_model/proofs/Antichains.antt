@@ -6,11 +6,11 @@ use Rattle.std.proofs.lemmas.List.Elements.{All-contains, All-contains_itself, A
 use Rattle.list_laws.proofs.Members.{Contains-cons_head, Contains-cons_tail, Contains-cons_cases, AllPairs-head, AllPairs-tail}
 use Rattle.list_laws.proofs.Once.{Contains-nil}
 use Rattle.tuple_model.specs.Limits.{most_items, most_size}
-use Rattle.tuple_model.specs.Tuples.{IsRising, IsTuple, ComesFirst, IsBefore, IsSubset, tuples, subset}
+use Rattle.tuple_model.specs.Tuples.{IsRising, IsTuple, IsBefore, IsSubset, tuples, subset}
 use Rattle.tuple_model.specs.Minimal.{IsMinimal, Picks, IsAnswer}
 use Rattle.tuple_model.specs.Antichains.{Covers, IsAntichain, CoversSame, CoversFailing, Adds, CoversMore}
 use Rattle.tuple_model.proofs.Rising.{IsRising-to_higher, IsTuple-from_member, member-from_IsTuple, tuples-ordered}
-use Rattle.tuple_model.proofs.Ranks.{IsBefore-irreflexive}
+use Rattle.tuple_model.proofs.Ranks.{IsBefore-irreflexive, IsBefore-asymmetric}
 use Rattle.tuple_model.proofs.Subsets.{IsTuple-subset, length-subset, member-from_subset, subset-whole, subset-proper, subset-from_members}
 use Rattle.tuple_model.proofs.Answers.{IsAnswer-from_Picks, equal_or_not}
 
@@ -74,20 +74,6 @@ IsSubset-before high s t g h has = elim (proper_or_equal high s t g h has) [
       inr (inl (omega arith))
 ]
 
-ComesFirst-asym : (s t : List ℕ) → ComesFirst s t → ComesFirst t s → ⊥
-ComesFirst-asym [] t h k = h
-ComesFirst-asym (x ∷ s) [] h k = h
-ComesFirst-asym (x ∷ s) (y ∷ t) (inl a) (inl b) = omega arith
-ComesFirst-asym (x ∷ s) (y ∷ t) (inl a) (inr b) = let e = b.0 in omega arith
-ComesFirst-asym (x ∷ s) (y ∷ t) (inr a) (inl b) = let e = a.0 in omega arith
-ComesFirst-asym (x ∷ s) (y ∷ t) (inr a) (inr b) = ComesFirst-asym s t a.1 b.1
-
-pub IsBefore-asym : (s t : List ℕ) → IsBefore s t → IsBefore t s → ⊥
-IsBefore-asym s t (inl a) (inl b) = omega arith
-IsBefore-asym s t (inl a) (inr b) = let e = b.0 in omega arith
-IsBefore-asym s t (inr a) (inl b) = let e = a.0 in omega arith
-IsBefore-asym s t (inr a) (inr b) = ComesFirst-asym s t a.1 b.1
-
 -- the first of a list in order comes before each other member, and is none of them
 first_before : (x : List ℕ) (xs : List (List ℕ)) (y : List ℕ) → AllPairs IsBefore (x ∷ xs) → Contains xs y → IsBefore x y
 first_before x xs y o k = All-contains (IsBefore x) xs y (AllPairs-head IsBefore x xs o) k
@@ -127,7 +113,7 @@ picks_members P (x ∷ xs) (y ∷ ys) o p picked left = elim (equal_or_not x y) 
       let in_rest : Contains xs y = elim (Contains-cons_cases x xs y (picked y (Contains-cons_head y ys)).0) [ inl e ↦ absurd (other e) | inr l ↦ l ] in
       let not_listed : Contains (y ∷ ys) x → ⊥ = λ k. elim (Contains-cons_cases y ys x k) [
         | inl e ↦ other (sym e)
-        | inr l ↦ IsBefore-asym x y (first_before x xs y o in_rest) (first_before y ys x p l)
+        | inr l ↦ IsBefore-asymmetric x y (first_before x xs y o in_rest) (first_before y ys x p l)
       ] in
       inr (
         left x (Contains-cons_head x xs) not_listed,
@@ -152,7 +138,7 @@ ordered-same (x ∷ xs) (y ∷ ys) o p h k =
       | inl e ↦ sym e
       | inr l ↦ elim (Contains-cons_cases x xs y (k y (Contains-cons_head y ys))) [
         | inl e ↦ e
-        | inr m ↦ absurd (IsBefore-asym x y (first_before x xs y o m) (first_before y ys x p l))
+        | inr m ↦ absurd (IsBefore-asymmetric x y (first_before x xs y o m) (first_before y ys x p l))
       ]
     ] in
     let rest = ordered-same xs ys (AllPairs-tail IsBefore x xs o) (AllPairs-tail IsBefore y ys p)

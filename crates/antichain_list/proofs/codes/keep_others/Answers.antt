@@ -1,16 +1,13 @@
-use Rattle.std.proofs.Common.{◌≡◌, ℕ, List, ◌+◌, get_or, set, refl, arith, subst, sym}
+use Rattle.std.proofs.Common.{get_or, arith, subst, sym}
 use Rattle.tuple_model.specs.Tuples.{IsSubset}
 use Rattle.antichain_list.specs.Held.{IsCode, IsNoSuperset}
-use Rattle.antichain_list.proofs.InPlace.{PicksInPlace, PicksInPlace-kept, PicksInPlace-skipped, All-in_place}
+use Rattle.antichain_list.proofs.InPlace.{PicksInPlace-kept, PicksInPlace-skipped, All-in_place}
 use Rattle.antichain_list.proofs.codes.keep_others.Goals as goal
 use Rattle.antichain_list.proofs.codes.keep_others.Goals.{then-not-is_subset, else-not-is_subset}
 
 pub tuple_of-requires : goal.tuple_of-requires
 tuple_of-requires c = All-in_place (IsNoSuperset c.args.t.now) IsCode c.args.codes.now c.loop-place.codes c.loop-place.kept c.loop-place.place 0 c.loop-place.invariant
     (omega arith) c.requires
-
-pub is_subset-requires : goal.is_subset-requires
-is_subset-requires c = ?
 
 pub loop-place-preserved : goal.loop-place-preserved
 loop-place-preserved c =

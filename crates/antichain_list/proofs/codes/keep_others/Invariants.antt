@@ -1,4 +1,3 @@
-use Rattle.std.proofs.Common.{ℕ}
 use Rattle.antichain_list.specs.Held.{IsNoSuperset}
 use Rattle.antichain_list.proofs.InPlace.{PicksInPlace}
 use Rattle.antichain_list.proofs.codes.keep_others.Given as goal

@@ -1,5 +1,5 @@
-use Rattle.std.proofs.Common.{arith, subst, sym, true, false, ◌≡◌, ℕ, List, Contains, Some, Option, take, ◌+◌}
-use Rattle.antichain_list.specs.Held.{IsLeastOfBoth, IsLower}
+use Rattle.std.proofs.Common.{arith, subst, sym, ℕ, Option, take, ◌+◌}
+use Rattle.antichain_list.specs.Held.{IsLeastOfBoth}
 use Rattle.antichain_list.proofs.Least.{IsLeastOfBoth-skip, IsLeastOfBoth-higher, IsLeastOfBoth-lower, IsLeastOfBoth-all}
 use Rattle.antichain_list.proofs.codes.least_held.Goals as goal
 use Rattle.antichain_list.proofs.codes.least_held.Goals.{then-is_lower+then-has, else-is_lower, else-is_lower-via-then-is_lower+else-has, else-is_lower-via-else-is_lower}

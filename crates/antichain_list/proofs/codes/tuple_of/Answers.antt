@@ -1,4 +1,4 @@
-use Rattle.std.proofs.Common.{◌≡◌, List, ℕ, ◌∙◌, sym}
+use Rattle.std.proofs.Common.{◌≡◌, ◌∙◌, sym}
 use Rattle.std.proofs.lemmas.Option.{MatchOption-at_some}
 use Rattle.std.specs.Bool.{⊤}
 use Rattle.tuple_model.specs.Limits.{most_items, most_size}
@@ -6,9 +6,6 @@ use Rattle.tuple_model.specs.Tuples.{IsTuple}
 use Rattle.tuple_order.specs.Codes.{code_of, tuple_of_code}
 use Rattle.tuple_order.proofs.Codes.{code_of-unique}
 use Rattle.antichain_list.proofs.codes.tuple_of.Goals as goal
-
-pub of_code-requires : goal.of_code-requires
-of_code-requires c = ?
 
 pub returns : goal.returns
 returns c =

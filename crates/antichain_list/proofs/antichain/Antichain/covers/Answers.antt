@@ -1,14 +1,7 @@
-use Rattle.std.proofs.Common.{◌≡◌, ℕ, List, ◌≤◌, length, arith, sym, ◌∙◌, subst, take, Some, None, map}
-use Rattle.tuple_model.specs.Tuples.{IsTuple}
-use Rattle.tuple_order.specs.Codes.{tuple_of_code}
-use Rattle.antichain_list.specs.Held.{AreCodes, IsLeastOfBoth}
-use Rattle.antichain_list.specs.Lists.{IsFirstSubset}
+use Rattle.std.proofs.Common.{arith, take}
 use Rattle.antichain_list.proofs.Coded.{IsNonDecreasing-from_codes}
 use Rattle.antichain_list.proofs.Lookup.{AreSubsetCodes, AreSubsetCodes-take, IsFirstSubset-from_least, uncovered-from_none}
 use Rattle.antichain_list.proofs.antichain.Antichain.covers.Goals as goal
-
-pub subset_codes-subsets-requires : goal.subset_codes-subsets-requires
-subset_codes-subsets-requires c = ?
 
 pub least_held-requires : goal.least_held-requires
 least_held-requires c = rw c.deref.ensures.value (IsNonDecreasing-from_codes c.self.inside.codes.items c.self.invariant)
@@ -18,7 +11,7 @@ returns-in_err-code-clause-none c =
     let t = c.args.t.now in
     let all = c.subset_codes-subsets.result in
     let count = c.subset_count.result in
-    let subsets : AreSubsetCodes t (take count all) = AreSubsetCodes-take t all count c.subset_count.ensures.count (omega arith) c.subset_codes-subsets.ensures in
+    let subsets : AreSubsetCodes t (take count all) = AreSubsetCodes-take t all count c.subset_count.ensures.count (omega arith) c.subset_codes-subsets.ensures.codes in
     let none = rw c.deref.ensures.value at c.in_err-code.ensures in
     rw (c.from_residual.ensures, ← c.self.view_is) (uncovered-from_none c.self.inside.codes.items t (take count all) c.self.invariant c.subset_count.ensures.tuple subsets none)
 
@@ -27,7 +20,7 @@ returns-clause-first c =
     let t = c.args.t.now in
     let all = c.subset_codes-subsets.result in
     let count = c.subset_count.result in
-    let subsets : AreSubsetCodes t (take count all) = AreSubsetCodes-take t all count c.subset_count.ensures.count (omega arith) c.subset_codes-subsets.ensures in
+    let subsets : AreSubsetCodes t (take count all) = AreSubsetCodes-take t all count c.subset_count.ensures.count (omega arith) c.subset_codes-subsets.ensures.codes in
     let least = rw c.deref.ensures.value at c.in_ok-code.ensures in
     rw (c.tuple_of.ensures, ← c.self.view_is)
     (IsFirstSubset-from_least c.self.inside.codes.items t (take count all) c.self.invariant c.subset_count.ensures.tuple subsets c.in_ok-code.code least)

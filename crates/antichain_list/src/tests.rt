@@ -1,0 +1,61 @@
+//! Small lists, worked out by hand.
+
+use crate::{Added, Antichain};
+use std::process::Abort;
+use std::test::Fail;
+use tuple_order::Tuple;
+
+// The codes of the tuples of item 0 alone, and of item 1 alone.
+const ZERO: u64 = 0x4040_2000_0000_0000;
+
+const ONE: u64 = 0x4040_4000_0000_0000;
+
+// The tuple of these items.
+fn tuple(rt: &impl Abort, items: &[u16]) -> Tuple {
+    Tuple::from_items(items).expect(rt, "items that rise")
+}
+
+// Adds a tuple of these items, and gives the items of the subset that the list had, if it had one.
+fn covering(rt: &impl Abort, list: &mut Antichain, items: &[u16]) -> Option<Tuple> {
+    match list.add(tuple(rt, items)).expect(rt, "memory") {
+        Added::Kept => None,
+        Added::Covered(s) => Some(s),
+    }
+}
+
+#[test]
+fn adds_what_is_not_covered(rt: HostRuntime) -> Result<(), Fail> {
+    let mut list = Antichain::new(rt.alloc());
+    assert!(rt; covering(&rt, &mut list, &[0, 1]).is_none());
+    let itself = covering(&rt, &mut list, &[0, 1]).expect(&rt, "covered");
+    assert_eq!(rt; itself.items(), [0, 1].as_slice());
+    assert!(rt; covering(&rt, &mut list, &[0]).is_none());
+    assert_eq!(rt; list.tuples(), [ZERO].as_slice());
+    let first = covering(&rt, &mut list, &[0, 2]).expect(&rt, "covered");
+    assert_eq!(rt; first.items(), [0].as_slice());
+    Ok(())
+}
+
+#[test]
+fn merges_the_minimal_tuples(rt: HostRuntime) -> Result<(), Fail> {
+    let mut list = Antichain::new(rt.alloc());
+    let mut other = Antichain::new(rt.alloc());
+    let _kept = list.add(tuple(&rt, &[0]))?;
+    let _kept = other.add(tuple(&rt, &[1]))?;
+    let _kept = other.add(tuple(&rt, &[0, 2]))?;
+    list.merge(&other)?;
+    assert_eq!(rt; list.tuples(), [ZERO, ONE].as_slice());
+    Ok(())
+}
+
+#[test]
+fn names_the_first_subset(rt: HostRuntime) -> Result<(), Fail> {
+    let mut list = Antichain::new(rt.alloc());
+    assert!(rt; list.covers(&tuple(&rt, &[0, 1, 2])).is_none());
+    let _kept = list.add(tuple(&rt, &[1, 2]))?;
+    let _kept = list.add(tuple(&rt, &[0, 2]))?;
+    let first = list.covers(&tuple(&rt, &[0, 1, 2])).expect(&rt, "covered");
+    assert_eq!(rt; first.items(), [0, 2].as_slice());
+    assert!(rt; list.covers(&tuple(&rt, &[0, 1])).is_none());
+    Ok(())
+}
