@@ -1,19 +1,15 @@
 -- A pass on its way through a range of ranks.
-use Rattle.std.proofs.Common.{◌≡◌, ℕ, suc, ◌+◌, ◌-◌, ◌<◌, ◌≤◌, ◌⊎◌, Bool, true, false, List, [], length, Some, ap, sym, ◌∙◌, inl, inr, arith, subst, add-one}
+use Rattle.std.proofs.Common.{◌≡◌, ℕ, suc, ◌+◌, ◌<◌, ◌≤◌, Bool, true, false, List, [], length, ap, sym, ◌∙◌, inl, inr, arith, subst, add-one}
 use Rattle.std.specs.List.{slice_get}
 use Rattle.std.proofs.lemmas.Bool.{cases_Bool, cases_lt}
 use Rattle.std.proofs.lemmas.Option.{slice_get_within}
 use Rattle.list_laws.proofs.Once.{Contains-nil}
-use Rattle.tuple_model.specs.Tuples.{IsTuple, IsSubset, tuples}
+use Rattle.tuple_model.specs.Tuples.{IsSubset, HasRank, tuples}
 use Rattle.tuple_model.specs.Minimal.{IsAnswer}
-use Rattle.tuple_model.specs.Antichains.{Covers, IsAntichain}
+use Rattle.tuple_model.specs.Antichains.{IsAntichain, Adds}
 use Rattle.tuple_model.proofs.Ranks.{IsTuple-from_rank, rank-from_IsTuple}
 use Rattle.tuple_model.proofs.Antichains.{answer-from_antichain, Covers-added}
-use Rattle.tuple_order.specs.declared.ranks.Range.{Range}
-use Rattle.antichain_list.specs.declared.antichain.Added.{Added}
-use Rattle.antichain_list.specs.declared.antichain.Added.TheVariants.{Kept, Covered}
-use Rattle.antichain_list.specs.Lists.{MatchAdded}
-use Rattle.check_workers.specs.Passes.{HasRankedSubset, CoversRanked, CoversNext}
+use Rattle.check_workers.specs.Passes.{CoversRanked, CoversNext}
 
 -- so far the list covers what the failing tuples before this rank cover
 abbrev pub CoversBefore : (List ℕ → Type 0) → ℕ → ℕ → ℕ → ℕ → List (List ℕ) → Type 0
@@ -21,7 +17,7 @@ CoversBefore Fails items size from rank list = CoversRanked Fails items size (re
 
 -- the pass is at the tuple with this rank, where there is one left
 abbrev pub IsAtRank : ℕ → ℕ → ℕ → ℕ → List ℕ → Type 0
-IsAtRank items size to rank t = rank < to → slice_get (tuples items size) rank ≡ Some t
+IsAtRank items size to rank t = rank < to → HasRank items size t rank
 
 module _ (Fails : List ℕ → Type 0) (items size : ℕ) where
   -- before the first rank nothing is covered
@@ -32,7 +28,7 @@ module _ (Fails : List ℕ → Type 0) (items size : ℕ) where
   )
 
   -- one tuple more
-  pub CoversBefore-more : (from rank : ℕ) (t : List ℕ) (before after : List (List ℕ)) → from ≤ rank → slice_get (tuples items size) rank ≡ Some t →
+  pub CoversBefore-more : (from rank : ℕ) (t : List ℕ) (before after : List (List ℕ)) → from ≤ rank → HasRank items size t rank →
       CoversBefore Fails items size from rank before → CoversNext Fails before t after → CoversBefore Fails items size from (rank + 1) after
   CoversBefore-more from rank t before after l here covers next u = (
     (λ c. elim ((next u).0 c) [
@@ -68,24 +64,22 @@ module _ (Fails : List ℕ → Type 0) (items size : ℕ) where
 
 -- a step goes to the next rank, where there is one
 pub IsAtRank-next : (items size items' size' to rank : ℕ) (t after : List ℕ) (more : Bool) → items' ≡ items → size' ≡ size →
-    to ≤ length (tuples items size) → slice_get (tuples items size) rank ≡ Some t →
-    (more ≡ true → (rank : ℕ) → slice_get (tuples items' size') rank ≡ Some t → slice_get (tuples items' size') (suc rank) ≡ Some after) →
-    (more ≡ false → (rank : ℕ) → slice_get (tuples items' size') rank ≡ Some t → length (tuples items' size') ≡ suc rank) →
+    to ≤ length (tuples items size) → HasRank items size t rank →
+    (more ≡ true → (rank : ℕ) → HasRank items' size' t rank → HasRank items' size' after (suc rank)) →
+    (more ≡ false → (rank : ℕ) → HasRank items' size' t rank → length (tuples items' size') ≡ suc rank) →
     IsAtRank items size to (rank + 1) after
 IsAtRank-next items size items' size' to rank t after more is_items is_size few here next last l =
     let all : tuples items' size' ≡ tuples items size = ap (λ (n : ℕ). tuples n size') is_items ∙ ap (tuples items) is_size in
-    let here' : slice_get (tuples items' size') rank ≡ Some t = ap (λ (ts : List (List ℕ)). slice_get ts rank) all ∙ here in
+    let here' : HasRank items' size' t rank = ap (λ (ts : List (List ℕ)). slice_get ts rank) all ∙ here in
     elim (cases_Bool more) [
       | inl goes ↦ ap (slice_get (tuples items size)) (add-one rank) ∙ ap (λ (ts : List (List ℕ)). slice_get ts (suc rank)) (sym all) ∙ next goes rank here'
       | inr ends ↦ let n = last ends rank here' in let m = ap (λ (ts : List (List ℕ)). length ts) all in absurd (omega arith)
     ]
 
-module _ (Fails : List ℕ → Type 0) (before : List (List ℕ)) (t : List ℕ) (after : List (List ℕ)) where
-  -- a failing tuple that the list doesn't cover comes in
-  pub CoversNext-failing : (added : Added) → (Covers before t → ⊥) → Fails t → MatchAdded before after t added → CoversNext Fails before t after
-  CoversNext-failing Kept new fails h = λ u.
-      let more = Covers-added before t after h.1 u in (
-        (λ k. elim (more.0 k) [ inl old ↦ inl old | inr has ↦ inr (fails, has) ]),
-        (λ k. more.1 (elim k [ inl old ↦ inl old | inr r ↦ inr r.1 ])),
-      )
-  CoversNext-failing (Covered s) new fails h = let first = h.0 in absurd (new (s, first.member, first.subset))
+-- a failing tuple that the list doesn't cover comes in
+pub CoversNext-failing : (Fails : List ℕ → Type 0) (before : List (List ℕ)) (t : List ℕ) (after : List (List ℕ)) → Fails t → Adds before t after → CoversNext Fails before t after
+CoversNext-failing Fails before t after fails adds u =
+    let more = Covers-added before t after adds u in (
+      (λ k. elim (more.0 k) [ inl old ↦ inl old | inr has ↦ inr (fails, has) ]),
+      (λ k. more.1 (elim k [ inl old ↦ inl old | inr r ↦ inr r.1 ])),
+    )

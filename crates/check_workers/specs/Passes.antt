@@ -1,6 +1,6 @@
 -- What a pass over the tuples of a range of ranks finds.
-use Rattle.std.specs.Prelude.{◌≡◌, ◌↔◌, ◌⊎◌, ℕ, ◌<◌, ◌≤◌, List, Some, slice_get}
-use Rattle.tuple_model.specs.Tuples.{IsSubset, tuples}
+use Rattle.std.specs.Prelude.{◌↔◌, ◌⊎◌, ℕ, ◌<◌, ◌≤◌, List}
+use Rattle.tuple_model.specs.Tuples.{IsSubset, HasRank}
 use Rattle.tuple_model.specs.Antichains.{Covers}
 use Rattle.tuple_order.specs.declared.ranks.Range.{Range}
 
@@ -10,7 +10,7 @@ pub record HasRankedSubset (Fails : List ℕ → Type 0) (items size : ℕ) (ran
   pub begun : range.from ≤ rank
   pub before_end : rank < range.to
   pub failing : List ℕ
-  pub ranked : slice_get (tuples items size) rank ≡ Some failing
+  pub ranked : HasRank items size failing rank
   pub fails : Fails failing
   pub subset : IsSubset failing t
 

@@ -84,14 +84,13 @@ fn take_in<Q: Query, L: Ledger>(
 ) -> Result<(), OutOfMemory>
     requires scratch { Q.Fits query.now scratch.old }
     requires tuple { IsTuple (Q.Question.items query.now) (Q.Question.size query.now) t.now }
-    requires antichain { IsAntichain list.old }
     ensures scratch { Q.Fits query.now scratch.new }
     ensures covers { OnOk result (CoversNext (Q.Question.Fails query.now) list.old t.now list.new) }
     ensures antichain { IsAntichain list.new }
     ensures steps { steps.new ≤ suc steps.old }
 {
     if list.covers(t).is_none() && query.judge(scratch, t, steps) {
-        let _added = list.add(*t)?;
+        list.insert(*t)?;
     }
     Ok(())
 }

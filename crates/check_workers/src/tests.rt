@@ -1,6 +1,6 @@
 //! Queries with a table of what fails, and their minimal failing tuples, worked out by hand.
 
-ghost use Rattle.std.specs.Prelude.{◌≡◌, ◌≤◌, List, ℕ, map, Contains};
+ghost use Rattle.std.specs.Prelude.{◌≡◌, ◌≤◌, ◌↔◌, Any, IsTrue};
 ghost use Rattle.tuple_model.specs.Limits.{most_items, most_size};
 
 use crate::minimal;
@@ -26,7 +26,7 @@ impl<'a> Question for Table<'a> {
 
     ghost size = { λ table. table.size };
 
-    ghost Fails = { λ table t. Contains (map (λ s. s.now) table.failing.now) t };
+    ghost Fails = { λ table t. Any (λ set. set.now ≡ t) table.failing.now };
 }
 
 impl<'a> Query for Table<'a> {
@@ -48,16 +48,32 @@ impl<'a> Query for Table<'a> {
 
     fn judge<L: Ledger>(&self, _scratch: &mut (), t: &Tuple, steps: &mut Steps<L>) -> bool {
         steps.tick();
-        self.failing.iter().any(|set| *set == t.items())
+        self.failing.iter().any(|set| is(set, t))
     }
+}
+
+fn is(set: &[u16], t: &Tuple) -> bool
+    ensures { IsTrue result ↔ (set.now ≡ t.now) }
+{
+    set == t.items()
 }
 
 // The failing tuples of at most so many items, and the minimal ones.
 const TABLES: [(u16, u8, &[&[u16]], &[&[u16]]); 5] = [
     // Each superset of one that fails fails too.
-    (4, 2, &[&[1], &[0, 1], &[1, 2], &[1, 3], &[2, 3]], &[&[1], &[2, 3]]),
+    (
+        4,
+        2,
+        &[&[1], &[0, 1], &[1, 2], &[1, 3], &[2, 3]],
+        &[&[1], &[2, 3]],
+    ),
     // A superset of one that fails may pass, and one that fails isn't minimal.
-    (4, 3, &[&[0], &[0, 3], &[1, 2], &[0, 1, 2], &[1, 2, 3], &[1, 3]], &[&[0], &[1, 2], &[1, 3]]),
+    (
+        4,
+        3,
+        &[&[0], &[0, 3], &[1, 2], &[0, 1, 2], &[1, 2, 3], &[1, 3]],
+        &[&[0], &[1, 2], &[1, 3]],
+    ),
     // The empty tuple fails, so it alone is minimal.
     (3, 2, &[&[], &[1], &[0, 2]], &[&[]]),
     (3, 2, &[], &[]),
@@ -71,7 +87,14 @@ fn one_pass_finds_the_minimal_failing_tuples(rt: HostRuntime) -> Result<(), Fail
     for (items, size, failing, want) in TABLES {
         assert!(rt; items <= 511);
         assert!(rt; size <= 6);
-        let found = minimal(alloc, &Table { items, size, failing })?;
+        let found = minimal(
+            alloc,
+            &Table {
+                items,
+                size,
+                failing,
+            },
+        )?;
         assert_eq!(rt; found.len(), want.len(), "{failing:?}");
         for place in 0..found.len() {
             assert_eq!(rt; found.tuple(place).items(), want[place], "{failing:?}");

@@ -1,6 +1,5 @@
-use Rattle.std.proofs.Common.{◌≡◌, ◌<◌, ◌≤◌, ◌+◌, ℕ, List, length, Some, subst, sym, arith, rules}
-use Rattle.std.specs.List.{slice_get}
-use Rattle.tuple_model.specs.Tuples.{IsTuple, tuples}
+use Rattle.std.proofs.Common.{◌≡◌, ℕ, subst, sym, arith}
+use Rattle.tuple_model.specs.Tuples.{IsTuple}
 use Rattle.check_workers.proofs.Passed.{CoversBefore, CoversBefore-more, IsAtRank-next}
 use Rattle.check_workers.proofs.pass.minimal_in.Goals as goal
 
