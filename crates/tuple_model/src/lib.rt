@@ -72,7 +72,8 @@ pub fn covering_law<F: Failing>()
 /// Where a tuple that the list doesn't cover comes in and its supersets go, the list in order is an antichain again,
 /// and covers what it covered and the supersets of the tuple.
 pub fn adding_law()
-    ensures antichain { (before after : List (List ℕ)) (t : List ℕ) → IsAntichain before → IsTuple most_items most_size t →
-        (Covers before t → ⊥) → Adds before t after → AllPairs IsBefore after → IsAntichain after }
+    ensures antichain { (before after : List (List ℕ)) (t : List ℕ) → IsAntichain before →
+        IsTuple most_items most_size t → (Covers before t → ⊥) → Adds before t after →
+        AllPairs IsBefore after → IsAntichain after }
     ensures covers { (before after : List (List ℕ)) (t : List ℕ) → Adds before t after → CoversMore before t after }
 {}

@@ -33,7 +33,10 @@ impl Model for Tuple {
 
     ghost inverse = { λ t. record { items = t ++ replicate (most_size - length t) 0; size = length t } };
 
-    ghost inverse_ok = { λ t h i. record { items = places-held t.items t.size h i; size = length-held t.items t.size h i } };
+    ghost inverse_ok = { λ t h i. record {
+      items = places-held t.items t.size h i;
+      size = length-held t.items t.size h i;
+    } };
 }
 
 impl Tuple {
