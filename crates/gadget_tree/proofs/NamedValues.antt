@@ -9,10 +9,9 @@ use Rattle.gadget_model.specs.Circuit.{Node, Variable, Circuit, nodes, value_of,
 use Rattle.gadget_model.proofs.Values.{value-node}
 use Rattle.gadget_text.specs.Tokens.{TokenLine}
 use Rattle.gadget_grammar.specs.Grammar.{Tree}
-use Rattle.gadget_grammar.specs.Steps as steps
 use Rattle.gadget_tree.specs.Variables.{names_of, is_among, place_of, AreDistinct}
 use Rattle.gadget_tree.specs.Operations.{line_parts, line_names, line_nodes}
-use Rattle.gadget_tree.specs.Values.{value_named, meaning_in, HasPart}
+use Rattle.gadget_tree.specs.Values.{value_named, HasPart}
 use Rattle.gadget_tree.proofs.Names.{length-names_of}
 use Rattle.gadget_tree.proofs.NamePlaces.{place_of-append_left, distinct_places}
 use Rattle.gadget_tree.proofs.HeaderVariables.{nodes_of, IsHeaderNode}

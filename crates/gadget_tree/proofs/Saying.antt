@@ -1,5 +1,5 @@
 -- What each step on the way through a file says of it.
-use Rattle.std.proofs.Common.{◌≡◌, ℕ, List, Option, Some, None, Result, Ok, Err, refl, sym, ap, ◌∙◌}
+use Rattle.std.proofs.Common.{◌≡◌, ℕ, List, Option, None, Result, Ok, Err, refl, sym, ap, ◌∙◌}
 use Rattle.std.specs.Prelude.{option_map}
 use Rattle.gadget_model.specs.Circuit.{Variable, Circuit}
 use Rattle.gadget_text.specs.declared.token.Token.{Token}

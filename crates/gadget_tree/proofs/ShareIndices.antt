@@ -1,6 +1,7 @@
 -- Variables that are shares have an input and an index of their gadget.
 use Rattle.std.proofs.Common.{◌≡◌, ◌<◌, ◌≤◌, ℕ, List, length, get_or, refl, sym, subst, arith}
 use Rattle.std.specs.Prelude.{All, map}
+use Rattle.gadget_limits.specs.Limits.{most_shares}
 use Rattle.gadget_model.specs.Circuit.{Variable, Circuit}
 use Rattle.gadget_tree.specs.declared.var.Var.{Var}
 use Rattle.gadget_tree.specs.declared.var.VarKind.{VarKind}
@@ -10,7 +11,7 @@ use Rattle.gadget_tree.specs.Seen.{node_of, variable_of, variables_of}
 use Rattle.gadget_tree.proofs.StepsMake.{All-from_map}
 
 -- the number of a share has one input and one index
-share_below : (g : Circuit) (kind : VarKind) → ((input index : ℕ) → kind ≡ Share input index → index < 16) → g.shares ≤ 16 → IsNumberedNode g (node_of kind) →
+share_below : (g : Circuit) (kind : VarKind) → ((input index : ℕ) → kind ≡ Share input index → index < most_shares) → g.shares ≤ most_shares → IsNumberedNode g (node_of kind) →
     IsShareBelow (length g.inputs) g.shares kind
 share_below g (Share input index) low few h = let l = low input index refl in (omega (arith, l, h.2, h.3, h.4, few), omega (arith, l, h.2, h.3, h.4, few))
 share_below g (Random k) low few h = tt

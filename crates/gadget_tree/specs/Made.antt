@@ -78,13 +78,13 @@ with_product base [] nodes = record { stack = []; nodes = nodes }
 with_product base (a ∷ []) nodes = record { stack = a ∷ []; nodes = nodes }
 with_product base (b ∷ a ∷ stack) nodes = with_node base stack nodes (node.product_of a b)
 
--- what is made behind one more step, where `look` finds names
+-- what is made after one more step, where `look` finds names
 abbrev pub after_step : (List ℕ → ℕ) → ℕ → Making → NamedStep → Making
 after_step look base m (name w) = record { stack = look w ∷ m.stack; nodes = m.nodes }
 after_step look base m sum = with_sum base m.stack m.nodes
 after_step look base m product = with_product base m.stack m.nodes
 
--- what is made behind these steps
+-- what is made after these steps
 abbrev pub after_steps : (List ℕ → ℕ) → ℕ → Making → List NamedStep → Making
 after_steps look base m [] = m
 after_steps look base m (step ∷ steps) = after_steps look base (after_step look base m step) steps

@@ -1,6 +1,6 @@
 //! The variables of the headers.
 
-ghost use Rattle.std.specs.Prelude.{ℕ, All, ◌≡◌, ◌≤◌, ◌<◌, ◌++◌, IfOk, OnOk, length, map, option_map};
+ghost use Rattle.std.specs.Prelude.{All, ◌≡◌, ◌≤◌, ◌++◌, IfOk, OnOk, length, map};
 ghost use Rattle.gadget_limits.specs.Limits.{most_shares, most_inputs, most_randoms};
 ghost use Rattle.gadget_text.specs.Places.{LiesWithin, text_in};
 ghost use Rattle.gadget_headers.specs.Limits.{KeepsLimits};

@@ -64,8 +64,7 @@ fn with_steps(
 ) -> Result<Variables, FileError>
     requires within { All (IsStepWithin (length bytes.now)) steps.now }
     requires tree { (tree : Tree) × (steps_in bytes.now steps.now ≡ postfix tree) }
-    ensures {
-        Gives (λ v. v) result
+    ensures { Gives (λ v. v) result
         (MemoryAside (Is (with_steps line variables name.now (steps_in bytes.now steps.now)))) }
 {
     let count = count_made(steps);

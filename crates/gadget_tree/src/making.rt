@@ -1,11 +1,11 @@
 //! The kinds of the variables that a line makes, found with a stack.
 
-ghost use Rattle.std.specs.Prelude.{◌≡◌, ◌≤◌, ◌<◌, ◌+◌, ◌++◌, All, IfOk, OnOk, length, map, reverse, [], ◌∷◌};
+ghost use Rattle.std.specs.Prelude.{◌≡◌, ◌≤◌, ◌<◌, ◌+◌, ◌++◌, ◌∷◌, [], All, IfOk, OnOk, length, map};
 ghost use Rattle.gadget_grammar.specs.Grammar.{Tree};
 ghost use Rattle.gadget_grammar.specs.Steps.{postfix};
 ghost use Rattle.gadget_limits.specs.Limits.{most_variables};
 ghost use Rattle.gadget_grammar.specs.Seen.{IsStepWithin, step_in, steps_in};
-ghost use Rattle.gadget_tree.specs.Made.{operation_count, operand_count, count_made, with_node, after_step, after_steps, start, finished, nodes_made, making_of};
+ghost use Rattle.gadget_tree.specs.Made.{operand_count, count_made, with_node, after_step, start, finished, nodes_made, making_of};
 ghost use Rattle.gadget_tree.specs.Seen.{node_of};
 ghost use Rattle.gadget_tree.specs.Variables.{names_of, place_of};
 

@@ -78,8 +78,8 @@ fn is_among(names: &[Name], word: &[u8]) -> bool
     false
 }
 
-// The names behind the one at a place.
-fn behind(names: &[Name], place: usize) -> &[Name]
+// The names after the one at a place.
+fn after(names: &[Name], place: usize) -> &[Name]
     requires { place < length names.now }
     ensures { result.now ≡ drop (place + 1) names.now }
 {
@@ -91,7 +91,7 @@ pub(crate) fn are_distinct(names: &[Name]) -> bool
     ensures { result ≡ are_distinct names.now }
 {
     for (i, name) in names.iter().enumerate() {
-        if is_among(behind(names, i), name.bytes()) {
+        if is_among(after(names, i), name.bytes()) {
             return false;
         }
     }

@@ -23,8 +23,7 @@ fn push_shares(
     output: u8,
     stem: &[u8],
 ) -> Result<(), FileError>
-    ensures says {
-        Gives (λ _. tt) result
+    ensures says { Gives (λ _. tt) result
         (MemoryAside (Is (check_shares variables.now (shares_of_output shares output stem.now)))) }
     ensures numbers { OnOk result (numbers.new.items ≡ numbers.old.items
         ++ map (place_of (names_of variables.now)) (map (share_name stem.now) (range_with_len 0 shares))) }
@@ -48,8 +47,7 @@ pub(crate) fn output_shares(
 ) -> Result<Vec<u16>, FileError>
     requires within { AreHeadersWithin (length bytes.now) headers.now }
     requires limits { KeepsLimits (preamble_in bytes.now headers.now) }
-    ensures says {
-        Gives (λ _. flat_gadget (preamble_in bytes.now headers.now) variables.now) result
+    ensures says { Gives (λ _. flat_gadget (preamble_in bytes.now headers.now) variables.now) result
         (MemoryAside (Is (with_outputs (preamble_in bytes.now headers.now) variables.now))) }
     ensures numbers { IfOk result (λ v.
         v.items ≡ (flat_gadget (preamble_in bytes.now headers.now) variables.now).output_shares) }

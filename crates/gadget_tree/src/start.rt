@@ -27,8 +27,7 @@ fn with_shares(
     stems: Stems<'_>,
 ) -> Result<Vec<Name>, FileError>
     requires { AreWordsWithin (length bytes.now) stems }
-    ensures {
-        Gives (λ v. v.items) result
+    ensures { Gives (λ v. v.items) result
         (MemoryAside (Is (distinct_shares names.items shares (listed_in bytes.now stems.entry)))) }
 {
     extend_share_names(alloc, bytes, &mut names, shares, stems.words)?;
@@ -46,8 +45,7 @@ fn with_randoms(
     randoms: Option<Stems<'_>>,
 ) -> Result<Vec<Name>, FileError>
     requires { IfSome randoms (AreWordsWithin (length bytes.now)) }
-    ensures {
-        Gives (λ v. v.items) result
+    ensures { Gives (λ v. v.items) result
         (MemoryAside (Is (distinct_randoms names.items (option_map (listed_in bytes.now) randoms.entry)))) }
 {
     let Some(randoms) = randoms else {
@@ -63,8 +61,7 @@ fn with_randoms(
 // Refuses headers that have a name twice.
 fn check_names(alloc: Global, bytes: &[u8], headers: &Headers<'_>) -> Result<(), FileError>
     requires { AreHeadersWithin (length bytes.now) headers.now }
-    ensures {
-        Gives (λ _. header_variables (preamble_in bytes.now headers.now)) result
+    ensures { Gives (λ _. header_variables (preamble_in bytes.now headers.now)) result
         (MemoryAside (Is (named_variables (preamble_in bytes.now headers.now)))) }
 {
     let inputs = with_shares(

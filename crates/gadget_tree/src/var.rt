@@ -1,6 +1,7 @@
 //! Variables: the wires of a gadget.
 
 ghost use Rattle.std.specs.Prelude.{ℕ, ◌≡◌, ◌<◌};
+ghost use Rattle.gadget_limits.specs.Limits.{most_shares};
 ghost use Rattle.gadget_tree.specs.declared.var.VarKind.TheVariants.{Share};
 
 use crate::name::Name;
@@ -28,5 +29,5 @@ pub struct Var {
     /// The line that made it, counted from 1; that of a share is the line of its header.
     pub line: u32,
     // The number of a share, 16 * input + index, then has one input and one index.
-    ghost share_index: { (input index : ℕ) → kind ≡ Share input index → index < 16 },
+    ghost share_index: { (input index : ℕ) → kind ≡ Share input index → index < most_shares },
 }

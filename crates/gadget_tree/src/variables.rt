@@ -1,6 +1,6 @@
 //! The variables so far, found by their names.
 
-ghost use Rattle.std.specs.Prelude.{◌≡◌, ◌≤◌, ◌<◌, ◌++◌, ◌∷◌, [], Bool, false, is_some, length, IfOk, IfSome};
+ghost use Rattle.std.specs.Prelude.{◌≡◌, ◌≤◌, ◌<◌, ◌++◌, ◌∷◌, [], false, is_some, length, IfOk, IfSome};
 ghost use Rattle.gadget_limits.specs.Limits.{most_variables};
 ghost use Rattle.gadget_tree.specs.Seen.{variable_of, variables_of};
 ghost use Rattle.gadget_tree.specs.Variables.{names_of, is_among, place_of};
@@ -77,7 +77,7 @@ impl Variables {
         self.number(name).unwrap_or(self.len() as u16)
     }
 
-    /// These variables, and behind them one more.
+    /// These variables, and after them one more.
     pub(crate) fn with(self, var: Var) -> Result<Variables, AllocError>
         requires fresh { is_among (names_of self) var.name ≡ false }
         requires room { length self < most_variables }

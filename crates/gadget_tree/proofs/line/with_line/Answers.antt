@@ -1,4 +1,4 @@
-use Rattle.std.proofs.Common.{sym, ap, ◌∙◌, Result}
+use Rattle.std.proofs.Common.{sym, ap, ◌∙◌}
 use Rattle.std.proofs.lemmas.Result.{err_from_is_err_and}
 use Rattle.gadget_text.specs.Errors.{Is, MemoryAside}
 use Rattle.gadget_text.specs.Places.{line_of}
@@ -7,7 +7,7 @@ use Rattle.gadget_headers.specs.Headers.{header_of}
 use Rattle.gadget_grammar.specs.Seen.{steps_in, assignment_in}
 use Rattle.gadget_tree.specs.File.{LineSays}
 use Rattle.gadget_tree.specs.Made.{with_steps}
-use Rattle.gadget_tree.proofs.LineAnswers.{header-says, refused-says, steps-tree, assigned-says}
+use Rattle.gadget_tree.proofs.LineAnswers.{refused-says, steps-tree, assigned-says}
 use Rattle.gadget_tree.proofs.line.with_line.Goals as goal
 
 pub returns-in_err-says : goal.returns-in_err-says
