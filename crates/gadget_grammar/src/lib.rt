@@ -12,6 +12,3 @@ pub use laws::{one_tree_law, value_law};
 pub use line::assignment;
 pub use nesting::MOST_OPEN_PARENTHESES;
 pub use step::{Assignment, Step};
-
-#[cfg(test)]
-mod tests;

@@ -9,6 +9,3 @@ mod stems;
 
 pub use headers::{Headers, read_headers};
 pub use stems::Stems;
-
-#[cfg(test)]
-mod tests;

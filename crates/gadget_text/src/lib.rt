@@ -20,6 +20,3 @@ pub use laws::{lines_law, name_law, segments_law, slices_law, spans_law, words_l
 pub use line_tokens::{LineTokens, first_line};
 pub use name::{is_name, is_number, is_stem};
 pub use token::{Header, TextError, Token, TokenKind, text};
-
-#[cfg(test)]
-mod tests;

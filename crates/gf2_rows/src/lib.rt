@@ -15,6 +15,3 @@ pub const MOST_ROWS: usize = 64;
 
 /// How many prefixes so many rows have, with the empty one.
 pub const MOST_PREFIXES: usize = MOST_ROWS + 1;
-
-#[cfg(test)]
-mod tests;

@@ -13,6 +13,3 @@ pub use encoding::code_law;
 pub use ranks::{Range, rank, unrank};
 pub use step_count::Steps;
 pub use tuples::{MOST_ITEMS, MOST_SIZE, Tuple, is_subset, next, subset};
-
-#[cfg(test)]
-mod tests;

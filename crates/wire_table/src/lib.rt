@@ -14,6 +14,3 @@ mod wire_error;
 pub use item::{Item, ItemKind};
 pub use table::WireTable;
 pub use wire_error::WireError;
-
-#[cfg(test)]
-mod tests;

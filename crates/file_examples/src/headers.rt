@@ -3,7 +3,7 @@
 ghost use Rattle.std.specs.Prelude.{◌≤◌, length};
 ghost use Rattle.gadget_text.specs.Limits.{most_file_bytes};
 
-use super::*;
+use gadget_headers::{Headers, Stems, read_headers};
 use gadget_text::{FileError, Header, MOST_FILE_BYTES, TextError, What, tokens};
 use std::alloc::{AllocError, Global};
 use std::test::Fail;

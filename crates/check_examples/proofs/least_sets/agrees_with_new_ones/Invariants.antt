@@ -1,5 +1,5 @@
 use Rattle.std.proofs.Common.{◌≡◌, length}
-use Rattle.worked_examples.proofs.least_sets.agrees_with_new_ones.Given as goal
+use Rattle.check_examples.proofs.least_sets.agrees_with_new_ones.Given as goal
 
 -- the elimination and the scratch stay those of the table
 abbrev pub invariant-loop : goal.invariant-loop

@@ -4,7 +4,7 @@ ghost use Rattle.std.specs.Prelude.{◌≤◌, All, IfOk, length};
 ghost use Rattle.gadget_text.specs.Limits.{most_file_bytes};
 ghost use Rattle.gadget_grammar.specs.Seen.{IsStepWithin};
 
-use super::*;
+use gadget_grammar::{Assignment, Step, assignment};
 use gadget_text::{FileError, LineTokens, MOST_FILE_BYTES, What, tokens};
 use std::alloc::{AllocError, Global};
 use std::test::Fail;

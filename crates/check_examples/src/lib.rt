@@ -1,18 +1,17 @@
-//! Worked examples of whole checks: files, faults and limits, and what each check answers and writes.
+//! Worked examples of whole checks: files, faults and limits, and what each check answers and writes; and of the layers
+//! below, by their public calls.
 #![tactic(auto)]
 
-#[cfg(test)]
-mod canonical;
 #[cfg(test)]
 mod fixture;
 #[cfg(test)]
 mod forms;
 #[cfg(test)]
+mod kernels;
+#[cfg(test)]
 mod least_sets;
 #[cfg(test)]
 mod limits;
-#[cfg(test)]
-mod offences;
 #[cfg(test)]
 mod products;
 #[cfg(test)]
@@ -21,6 +20,10 @@ mod randoms;
 mod read_faults;
 #[cfg(test)]
 mod standard;
+#[cfg(test)]
+mod tables;
+#[cfg(test)]
+mod tuples;
 #[cfg(test)]
 mod verdicts;
 #[cfg(test)]

@@ -3,7 +3,7 @@
 ghost use Rattle.std.specs.Prelude.{◌≤◌, length};
 ghost use Rattle.gadget_text.specs.Limits.{most_file_bytes};
 
-use super::*;
+use gadget_text::{Header, MOST_FILE_BYTES, TextError, Token, TokenKind, tokens};
 use std::alloc::Global;
 use std::test::Fail;
 

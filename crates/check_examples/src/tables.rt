@@ -1,8 +1,8 @@
 //! Tables and refusals worked out by hand.
 
-use super::*;
 use gadget_tree::read_gadget;
 use std::test::Fail;
+use wire_table::{WireError, WireTable};
 
 const SQUARE: &str =
     "#SHARES 2\n#IN a b\n#RANDOMS r0\n#OUT d\nx = a0 + r0\nt = x * x\nd0 = t + b0\nd1 = a1 + r0\n";

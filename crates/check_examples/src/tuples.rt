@@ -1,7 +1,7 @@
 //! The tuples of at most two of five items, and counts and codes that were worked out apart from this code.
 
-use crate::{Tuple, count, is_subset, next, rank, subset, unrank};
 use std::test::Fail;
+use tuple_order::{Tuple, count, is_subset, next, rank, subset, unrank};
 
 #[test]
 fn counts_tuples(rt: HostRuntime) -> Result<(), Fail> {
