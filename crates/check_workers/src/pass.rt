@@ -16,8 +16,8 @@ use tuple_order::{Range, Steps, Tuple, count, next, unrank};
 
 /// The minimal failing tuples of a query.
 pub fn minimal<Q: Query>(alloc: Global, query: &Q) -> Result<Antichain, OutOfMemory>
-    ensures answer { IfOk result (IsAnswer (Q.Question.Fails query.now) (Q.Question.items query.now) (Q.Question.size query.now)) }
-    ensures antichain { IfOk result IsAntichain }
+    ensures { IfOk result
+        (IsAnswer (Q.Question.Fails query.now) (Q.Question.items query.now) (Q.Question.size query.now)) }
 {
     minimal_of_all::<Q, Brand>(alloc, query, Blank::new(1))
 }
@@ -30,9 +30,9 @@ fn minimal_of_all<Q: Query, L: Ledger>(
 ) -> Result<Antichain, OutOfMemory>
     requires name { blank.name ≡ L.name }
     requires parts { blank.parts ≡ L.parts }
-    requires whole { blank.parts ≡ 1 }
-    ensures answer { IfOk result (IsAnswer (Q.Question.Fails query.now) (Q.Question.items query.now) (Q.Question.size query.now)) }
-    ensures antichain { IfOk result IsAntichain }
+    requires one { blank.parts ≡ 1 }
+    ensures { IfOk result
+        (IsAnswer (Q.Question.Fails query.now) (Q.Question.items query.now) (Q.Question.size query.now)) }
 {
     let (book, share) = blank.open::<L>();
     let mut steps = Steps::make(book, share);
@@ -44,7 +44,8 @@ fn minimal_of_all<Q: Query, L: Ledger>(
     minimal_in(alloc, query, &mut scratch, all, &mut steps)
 }
 
-/// A list that covers exactly what the failing tuples with these ranks cover. A tuple that the list covers already isn't judged.
+/// A list that covers exactly what the failing tuples with these ranks cover. Lists of several ranges can be merged, and
+/// a tuple that the list covers already isn't judged.
 pub fn minimal_in<Q: Query, L: Ledger>(
     alloc: Global,
     query: &Q,
@@ -56,7 +57,8 @@ pub fn minimal_in<Q: Query, L: Ledger>(
     requires rises { range.from ≤ range.to }
     requires ranks { range.to ≤ length (tuples (Q.Question.items query.now) (Q.Question.size query.now)) }
     ensures scratch { Q.Fits query.now scratch.new }
-    ensures covers { IfOk result (CoversRanked (Q.Question.Fails query.now) (Q.Question.items query.now) (Q.Question.size query.now) range) }
+    ensures covers { IfOk result
+        (CoversRanked (Q.Question.Fails query.now) (Q.Question.items query.now) (Q.Question.size query.now) range) }
     ensures antichain { IfOk result IsAntichain }
     ensures steps { steps.new ≤ steps.old + (range.to - range.from) }
 {

@@ -76,7 +76,8 @@ impl<'g> Query for NiCheck<'g> {
         Elimination::make(alloc, self.table)
     }
 
-    /// Whether probes on these variables fail. Where they don't, a set of input shares that the notion grants simulates them.
+    /// Whether probes on these variables fail. Where they don't, a set of input shares that the notion grants
+    /// simulates them.
     fn judge<L: Ledger>(
         &self,
         scratch: &mut Elimination<'g>,

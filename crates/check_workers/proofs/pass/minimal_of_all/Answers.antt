@@ -15,8 +15,8 @@ answer-from_pass Fails items size items' size' to (Ok list) counted is_items is_
     answer-from_all_ranks Fails items size to list all antichain covers
 answer-from_pass Fails items size items' size' to (Err e) counted is_items is_size covers antichain = tt
 
-pub returns-clause-answer : goal.returns-clause-answer
-returns-clause-answer g c =
+pub returns : goal.returns
+returns g c =
     answer-from_pass (g.Q.Question.Fails c.args.query.now) (g.Q.Question.items c.args.query.now) (g.Q.Question.size c.args.query.now)
     c.items.result c.size.result c.count.result c.minimal_in.result
     c.count.ensures c.items.ensures.items c.size.ensures.size c.minimal_in.ensures.covers c.minimal_in.ensures.antichain
