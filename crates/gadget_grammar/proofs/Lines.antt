@@ -16,7 +16,7 @@ use Rattle.gadget_grammar.specs.Steps.{NamedStep, sum, product, postfix}
 use Rattle.gadget_grammar.specs.Nesting.{IsTooDeep, is_too_deep}
 use Rattle.gadget_grammar.specs.Machine.{left_name, steps_from, initial_state}
 use Rattle.gadget_grammar.specs.Seen.{symbols_in, step_in, steps_in}
-use Rattle.gadget_grammar.specs.Assignments.{Assigned, IsNoAssignment, AssignmentSays, StepsSaid}
+use Rattle.gadget_grammar.specs.Assignments.{Assigned, IsNoAssignment, StepsSaid}
 use Rattle.gadget_grammar.proofs.Depth.{deep_at, walk_deep}
 use Rattle.gadget_grammar.proofs.Readings.{run_spelled, run_has_tree}
 
@@ -69,9 +69,9 @@ pub read_at : (bytes : List ℕ) (ts : List Token) (line : ℕ) (steps : List Na
     steps_from initial_state (drop 2 (symbols_in bytes ts)) ≡ Some steps
 read_at bytes ts line steps e =
     ap (steps_from initial_state) (sym (symbols_behind bytes ts)) ∙ by_cases (steps_from initial_state (symbols_in bytes (drop 2 ts))) e where
-  by_cases : (o : Option (List NamedStep)) → ok_or o (Syntax line) ≡ Ok steps → o ≡ Some steps
-  by_cases None f = absurd cc
-  by_cases (Some read) f = let g = f in cc
+      by_cases : (o : Option (List NamedStep)) → ok_or o (Syntax line) ≡ Ok steps → o ≡ Some steps
+      by_cases None f = absurd cc
+      by_cases (Some read) f = let g = f in cc
 
 module _ (line : TokenLine) where
   -- a line that is too deep

@@ -3,7 +3,7 @@ use Rattle.std.proofs.Common.{◌≡◌, ◌⊎◌, ℕ, List, inl, inr, Result,
 use Rattle.gadget_text.specs.declared.file_error.FileError.{FileError}
 use Rattle.gadget_text.specs.declared.file_error.FileError.TheVariants.{Syntax, TooMany}
 use Rattle.gadget_text.specs.declared.file_error.What.TheVariants.{Nesting}
-use Rattle.gadget_text.specs.Tokens.{Lexeme, TokenLine}
+use Rattle.gadget_text.specs.Tokens.{TokenLine}
 use Rattle.gadget_text.proofs.Results.{IsNotOutOfMemory}
 use Rattle.gadget_grammar.specs.Grammar.{Tree, IsAssignment}
 use Rattle.gadget_grammar.specs.Nesting.{IsTooDeep}

@@ -13,7 +13,7 @@ use Rattle.gadget_text.specs.declared.file_error.FileError.{FileError}
 use Rattle.gadget_text.specs.declared.file_error.FileError.TheVariants.{HeaderTwice, BadNumber, BadName, TooMany}
 use Rattle.gadget_text.specs.declared.file_error.What.{What}
 use Rattle.gadget_text.specs.declared.file_error.What.TheVariants as what
-use Rattle.gadget_text.specs.Errors.{refuse, ◌>>=◌, ◌>>◌, Gives, Is}
+use Rattle.gadget_text.specs.Errors.{refuse, ◌>>◌, Gives, Is}
 use Rattle.gadget_limits.specs.Limits.{most_shares, most_inputs, most_outputs, most_randoms}
 use Rattle.gadget_headers.specs.Headers.{Listed, SoFar, no_headers, Preamble, number_of, header_of, header_words, listed, with_header, end_headers, at_line, headers_from, preamble_of}
 use Rattle.gadget_headers.specs.Limits.{stems_of, KeepsLimits}
@@ -111,24 +111,24 @@ randoms_stems (Some l) k = k.stems
 end_limits : (now : SoFar) (lines : List TokenLine) (h : Preamble) → KeepsSoFar now → end_headers now lines ≡ Ok h → KeepsLimits h
 end_limits now lines h k e =
     by_cases now.shares now.inputs now.outputs k.shares k.inputs k.outputs e where
-  by_cases : (n : Option ℕ) (inputs outputs : Option Listed) → IfSome n IsShareNumber → IfSome inputs (IsListedSome most_inputs) → IfSome outputs (IsListedSome most_outputs) →
-      end_headers (record now { shares = n; inputs = inputs; outputs = outputs }) lines ≡ Ok h → KeepsLimits h
-  by_cases None inputs outputs a b d f = absurd cc
-  by_cases (Some n) None outputs a b d f = absurd cc
-  by_cases (Some n) (Some inputs) None a b d f = absurd cc
-  by_cases (Some n) (Some inputs) (Some outputs) a b d f =
-      at_ok KeepsLimits (record { shares = n; inputs = inputs; randoms = now.randoms; outputs = outputs; lines = lines }) h f (record {
-        some_shares = a.some;
-        few_shares = a.few;
-        some_inputs = b.some;
-        few_inputs = b.listed.few;
-        few_randoms = randoms_few now.randoms k.randoms;
-        some_outputs = d.some;
-        few_outputs = d.listed.few;
-        input_stems = b.listed.stems;
-        random_stems = randoms_stems now.randoms k.randoms;
-        output_stems = d.listed.stems;
-      })
+      by_cases : (n : Option ℕ) (inputs outputs : Option Listed) → IfSome n IsShareNumber → IfSome inputs (IsListedSome most_inputs) → IfSome outputs (IsListedSome most_outputs) →
+          end_headers (record now { shares = n; inputs = inputs; outputs = outputs }) lines ≡ Ok h → KeepsLimits h
+      by_cases None inputs outputs a b d f = absurd cc
+      by_cases (Some n) None outputs a b d f = absurd cc
+      by_cases (Some n) (Some inputs) None a b d f = absurd cc
+      by_cases (Some n) (Some inputs) (Some outputs) a b d f =
+          at_ok KeepsLimits (record { shares = n; inputs = inputs; randoms = now.randoms; outputs = outputs; lines = lines }) h f (record {
+            some_shares = a.some;
+            few_shares = a.few;
+            some_inputs = b.some;
+            few_inputs = b.listed.few;
+            few_randoms = randoms_few now.randoms k.randoms;
+            some_outputs = d.some;
+            few_outputs = d.listed.few;
+            input_stems = b.listed.stems;
+            random_stems = randoms_stems now.randoms k.randoms;
+            output_stems = d.listed.stems;
+          })
 
 -- one line, and what follows it
 line_limits : (line : ℕ) (now : SoFar) (words : List (List ℕ)) (go : SoFar → Result Preamble FileError) (end : Result Preamble FileError) (o : Option Header) (h : Preamble) → KeepsSoFar now →

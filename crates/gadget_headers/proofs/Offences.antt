@@ -1,5 +1,5 @@
 -- Want of memory is no offence of headers.
-use Rattle.std.proofs.Common.{◌≡◌, ◌≢◌, ◌==◌, ◌&&◌, ◌||◌, ℕ, Bool, true, false, not, nat_lt, is_some, List, [], ◌∷◌, length, Option, Some, None, Result, Ok, Err}
+use Rattle.std.proofs.Common.{◌==◌, ◌&&◌, ◌||◌, ℕ, Bool, true, not, nat_lt, is_some, List, [], ◌∷◌, length, Option, Some, None, Result, Ok}
 use Rattle.std.specs.List.{list_all}
 use Rattle.gadget_text.specs.declared.token.Header.{Header}
 use Rattle.gadget_text.specs.declared.token.Header.TheVariants.{Profile, Shares, In, Randoms, Out}
@@ -9,7 +9,7 @@ use Rattle.gadget_text.specs.declared.file_error.FileError.{FileError}
 use Rattle.gadget_text.specs.declared.file_error.FileError.TheVariants.{HeaderTwice, BadNumber, BadName, TooMany}
 use Rattle.gadget_text.specs.declared.file_error.What.{What}
 use Rattle.gadget_text.specs.declared.file_error.What.TheVariants as what
-use Rattle.gadget_text.specs.Errors.{refuse, ◌>>=◌, ◌>>◌}
+use Rattle.gadget_text.specs.Errors.{refuse, ◌>>◌}
 use Rattle.gadget_limits.specs.Limits.{most_shares, most_inputs, most_outputs, most_randoms}
 use Rattle.gadget_headers.specs.Headers.{Listed, SoFar, no_headers, Preamble, number_of, header_of, header_words, listed, with_header, end_headers, at_line, headers_from, preamble_of}
 use Rattle.gadget_text.proofs.Results.{IsNotOutOfMemory, refuse_in_memory, then_in_memory}

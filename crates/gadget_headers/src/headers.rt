@@ -34,7 +34,9 @@ fn end_headers<'a>(so_far: SoFar<'a>, rest: &'a [Token]) -> Result<Headers<'a>, 
         IsSoFarOf all so_far.entry → EndsWith all rest.now → AreHeadersOf all h) }
 {
     Ok(Headers {
-        shares: so_far.shares.ok_or(FileError::HeaderMissing(Header::Shares))?,
+        shares: so_far
+            .shares
+            .ok_or(FileError::HeaderMissing(Header::Shares))?,
         inputs: so_far.inputs.ok_or(FileError::HeaderMissing(Header::In))?,
         randoms: so_far.randoms,
         outputs: so_far.outputs.ok_or(FileError::HeaderMissing(Header::Out))?,

@@ -40,7 +40,7 @@ split_numbers p dot w e ((b ∷ number) ∷ numbers) f =
     ∙ ap (λ (z : List (List ℕ)). w ∷ z) (split_numbers is_ascii_digit refl (b ∷ number) h.0 numbers h.1)
 
 -- the bytes of a stem
-stem_bytes : (stem : List ℕ) → is_stem stem ≡ true → list_all continues_stem stem ≡ true
+pub stem_bytes : (stem : List ℕ) → is_stem stem ≡ true → list_all continues_stem stem ≡ true
 stem_bytes [] e = absurd cc
 stem_bytes (b ∷ bs) e =
     let h = both (starts_stem b) (list_all continues_stem bs) e in

@@ -3,11 +3,11 @@ use Rattle.std.proofs.Common.{◌≡◌, ◌≢◌, ◌<◌, ◌≤◌, ◌==◌
 use Rattle.std.specs.List.{AllByRecursion, list_all, join_with_byte}
 use Rattle.std.specs.Int.{is_in_range}
 use Rattle.std.specs.Char.{is_ascii_alphanumeric, is_ascii_digit}
-use Rattle.std.proofs.lemmas.Bool.{and_parts, and_from, or_cases, or_left, or_right, leb-true}
+use Rattle.std.proofs.lemmas.Bool.{and_parts, and_from, or_cases, or_right, leb-true}
 use Rattle.std.proofs.lemmas.List.Folds.{list_all-append}
 use Rattle.gadget_text.specs.Bytes.{is_name_byte}
 use Rattle.gadget_text.specs.Names.{starts_stem, continues_stem, is_stem, is_number, is_name, IsStemWithNumbers}
-use Rattle.gadget_text.proofs.NameParts.{names_by_parts}
+use Rattle.gadget_text.proofs.NameParts.{stem_bytes, names_by_parts}
 
 -- a byte that is no control byte
 pub record IsPrinted (b : ℕ) : Type 0 where
@@ -99,13 +99,6 @@ digit_continues b e = or_right (starts_stem b) (is_ascii_digit b) e
 pub digit_letter : (b : ℕ) → is_ascii_digit b ≡ true → is_name_byte b ≡ true
 digit_letter b e = continues_letter b (digit_continues b e)
 
--- the bytes of a stem
-stem_continues : (stem : List ℕ) → is_stem stem ≡ true → list_all continues_stem stem ≡ true
-stem_continues [] e = absurd cc
-stem_continues (b ∷ bs) e =
-    let h = and_parts (starts_stem b) (list_all continues_stem bs) e in
-    and_from (continues_stem b) (list_all continues_stem bs) (or_left (starts_stem b) (is_ascii_digit b) h.0) h.1
-
 stem_some : (stem : List ℕ) → is_stem stem ≡ true → 0 < length stem
 stem_some [] e = absurd cc
 stem_some (b ∷ bs) e = omega arith
@@ -137,7 +130,7 @@ joined_some c w (v ∷ ws) l = omega (arith, length-append w (c ∷ join_with_by
 
 named_by_parts : (w stem : List ℕ) (numbers : List (List ℕ)) → IsTrue (is_name w) → IsStemWithNumbers w stem numbers → IsNamed w
 named_by_parts w stem numbers n h =
-    let s = stem_continues stem h.is_stem in
+    let s = stem_bytes stem h.is_stem in
     let letters = and_from (list_all is_name_byte stem) (list_all (list_all is_name_byte) numbers) (all_pass continues_stem is_name_byte continues_letter stem s) (numbers_letters numbers h.are_numbers) in
     record {
       name = n;

@@ -15,14 +15,6 @@ use Rattle.gadget_tree.specs.Seen.{variables_of}
 use Rattle.gadget_tree.specs.Variables.{name_at}
 use Rattle.mask_check.specs.Report.{AreVariables, newline, verdict}
 
--- the name of a variable of the model is that of the code's variable with the same number
-pub name_at-variables_of : (vars : List Var) (k : ℕ) (v : Var) → k < length (variables_of vars) → name_at (variables_of vars) k ≡ (get_or vars k v).name
-name_at-variables_of [] k v h = absurd (omega arith)
-name_at-variables_of (x ∷ vars) zero v h = refl
-name_at-variables_of (x ∷ vars) (suc k) v h =
-    let below : k < length (variables_of vars) = omega arith in
-    name_at-variables_of vars k v below
-
 -- the items of a tuple are variables
 pub AreVariables-from_IsTuple : (g : Circuit) (size : ℕ) (t : List ℕ) → IsTuple (length g.variables) size t → AreVariables g t
 AreVariables-from_IsTuple g size t h =
