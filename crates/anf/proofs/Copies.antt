@@ -1,5 +1,5 @@
 -- Copies of monomials: they have the same variables.
-use Rattle.std.proofs.Common.{◌≡◌, ℕ, ◌<◌, ◌≤◌, List, [], ◌∷◌, ◌++◌, length, get_or, refl, ap, sym, ◌∙◌, subst, arith}
+use Rattle.std.proofs.Common.{◌≡◌, ℕ, ◌<◌, ◌≤◌, List, [], ◌∷◌, length, get_or, refl, ap, sym, ◌∙◌, subst, arith}
 use Rattle.std.specs.List.{All, AllPairs, AllZip}
 use Rattle.std.specs.List.Sorted.{IsStrictlyIncreasing}
 use Rattle.std.specs.Cmp.Lexicographic.{slice_cmp}
@@ -8,7 +8,7 @@ use Rattle.std.specs.declared.cmp.Ordering.TheVariants.{Less}
 use Rattle.std.proofs.lemmas.List.Elements.{length_all_zip, AllZip-get_or, same_from_all_zip}
 use Rattle.smallvec.specs.SmallVec.{SmallVec}
 use Rattle.anf.specs.Polynomials.{set_of}
-use Rattle.anf.specs.Monomials.{sets_of, IsPoly, AreCopies}
+use Rattle.anf.specs.Monomials.{sets_of, most_in_monomial, IsPoly, AreCopies}
 
 -- copies are the same sets
 pub sets_of-copies : (ms ws : List (SmallVec ℕ)) → AreCopies ms ws → sets_of ws ≡ sets_of ms
@@ -39,7 +39,7 @@ IsPoly-copies ms ws h p =
     let e = length_all_zip (λ (m w : SmallVec ℕ). w.items ≡ m.items) ms ws h in
     record {
       rising = All-copies IsStrictlyIncreasing ms ws h p.rising;
-      small = All-copies (λ vs. length vs ≤ 4) ms ws h p.small;
+      small = All-copies (λ vs. length vs ≤ most_in_monomial) ms ws h p.small;
       sorted = AllPairs-copies (λ us vs. slice_cmp nat_cmp us vs ≡ Less) ms ws h p.sorted;
       few = let f = p.few in omega arith;
     }
@@ -51,10 +51,3 @@ AreCopies-from_clones C same [] [] h = h
 AreCopies-from_clones C same [] (w ∷ ws) h = h
 AreCopies-from_clones C same (m ∷ ms) [] h = h
 AreCopies-from_clones C same (m ∷ ms) (w ∷ ws) h = (same_from_all_zip C m.items w.items h.0 same, AreCopies-from_clones C same ms ws h.1)
-
--- copies of two lists, put together, are copies of the two put together
-pub AreCopies-append : (ms ws cs ds : List (SmallVec ℕ)) → AreCopies ms cs → AreCopies ws ds → AreCopies (ms ++ ws) (cs ++ ds)
-AreCopies-append [] ws [] ds h k = k
-AreCopies-append [] ws (c ∷ cs) ds h k = absurd h
-AreCopies-append (m ∷ ms) ws [] ds h k = absurd h
-AreCopies-append (m ∷ ms) ws (c ∷ cs) ds h k = (h.0, AreCopies-append ms ws cs ds h.1 k)

@@ -11,9 +11,9 @@ use Rattle.anf.specs.Polynomials.{set_of, HasThreeVariables, HasFewVariables}
 use Rattle.anf.specs.Monomials.{sets_of, AreRising, ArePairs}
 use Rattle.anf.proofs.Sets.{bit_from_Contains, Contains-from_bit}
 
--- rising variables of which there are three have three
-three : (vs : List ℕ) → IsStrictlyIncreasing vs → 2 < length vs → HasThreeVariables (set_of vs)
-three vs rising l =
+-- a monomial of more than two rising variables has three
+pub HasThreeVariables-from_length : (vs : List ℕ) → IsStrictlyIncreasing vs → 2 < length vs → HasThreeVariables (set_of vs)
+HasThreeVariables-from_length vs rising l =
     let has : (k : ℕ) → k < 3 → bit_at (set_of vs) (get_or vs k 0) ≡ 1 = λ k m. bit_from_Contains vs (get_or vs k 0) (Contains-get_or vs k 0 (omega arith)) in
     (get_or vs 0 0, get_or vs 1 0, get_or vs 2 0, rising 0 (omega arith), rising 1 (omega arith), has 0 (omega arith), has 1 (omega arith), has 2 (omega arith))
 
@@ -24,7 +24,7 @@ ArePairs-from_few ms p e rising few k d l =
     let m = get_or ms k d in
     let fewer : HasThreeVariables (f m) → ⊥ = λ h.
     subst HasFewVariables (sym e) few k (f d) (omega (arith, length-map ms f)) (subst HasThreeVariables (sym (get_or-map f ms k d)) h) in
-    elim (cases_lt 2 (length m.items)) [ inl more ↦ absurd (fewer (three m.items (rising k d l) more)) | inr enough ↦ enough ]
+    elim (cases_lt 2 (length m.items)) [ inl more ↦ absurd (fewer (HasThreeVariables-from_length m.items (rising k d l) more)) | inr enough ↦ enough ]
 
 -- two variables are no three
 no_three : (vs : List ℕ) → length vs ≤ 2 → HasThreeVariables (set_of vs) → ⊥

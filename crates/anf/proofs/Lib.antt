@@ -1,4 +1,5 @@
 pub mod Sets
+pub mod Keys
 pub mod Orders
 pub mod Cancelling
 pub mod OddOnes

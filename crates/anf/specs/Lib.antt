@@ -1,3 +1,4 @@
 pub mod Polynomials
 pub mod Monomials
 pub mod Reduction
+pub mod Keys

@@ -6,25 +6,34 @@ use Rattle.std.specs.Cmp.Lexicographic.{slice_cmp}
 use Rattle.std.specs.Ordering.{nat_cmp}
 use Rattle.std.specs.declared.cmp.Ordering.TheVariants.{Less}
 use Rattle.smallvec.specs.SmallVec.{SmallVec}
+use Rattle.gadget_model.specs.Limits.{most_monomials}
 use Rattle.anf.specs.Polynomials.{set_of}
 
 -- the monomials as sets
 abbrev pub sets_of : List (SmallVec ℕ) → List ℕ
 sets_of ms = map (λ m. set_of m.items) ms
 
+-- the monomials as the lists of their variables
+abbrev pub lists_of : List (SmallVec ℕ) → List (List ℕ)
+lists_of ms = map (λ m. m.items) ms
+
 -- the variables of a monomial rise
 abbrev pub IsRising : SmallVec ℕ → Type 0
 IsRising m = IsStrictlyIncreasing m.items
 
--- a monomial has at most four variables
+-- A monomial has at most this many variables.
+abbrev pub most_in_monomial : ℕ
+most_in_monomial = 4
+
+-- a monomial has few enough variables
 abbrev pub IsSmall : SmallVec ℕ → Type 0
-IsSmall m = length m.items ≤ 4
+IsSmall m = length m.items ≤ most_in_monomial
 
 -- the variables of each monomial rise
 abbrev pub AreRising : List (SmallVec ℕ) → Type 0
 AreRising ms = All IsRising ms
 
--- each monomial has at most four variables
+-- each monomial has few enough variables
 abbrev pub AreSmall : List (SmallVec ℕ) → Type 0
 AreSmall ms = All IsSmall ms
 
@@ -45,4 +54,4 @@ pub record IsPoly (ms : List (SmallVec ℕ)) : Type 0 where
   pub rising : AreRising ms
   pub small : AreSmall ms
   pub sorted : AreInOrder ms
-  pub few : length ms ≤ 256
+  pub few : length ms ≤ most_monomials

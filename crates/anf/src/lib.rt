@@ -2,6 +2,7 @@
 #![tactic(auto)]
 
 mod arithmetic;
+mod key;
 mod poly;
 mod poly_error;
 mod reduction;

@@ -1,6 +1,7 @@
 //! Polynomials, and their readers.
 
 ghost use Rattle.std.specs.Prelude.{◌≡◌, ◌≢◌, ◌≤◌, ◌^◌, [], ◌∷◌, length, AllPairs, IfOk, IfErr};
+ghost use Rattle.gadget_model.specs.Limits.{most_monomials};
 ghost use Rattle.anf.specs.Monomials.{sets_of, AreRising, AreSmall, AreInOrder};
 ghost use Rattle.anf.specs.declared.poly_error.PolyError.TheVariants.{OutOfMemory};
 
@@ -59,7 +60,7 @@ impl Poly {
         ensures small { AreSmall result.now }
         ensures sorted { AreInOrder result.now }
         ensures once { AllPairs (λ a b. a ≢ b) self.now }
-        ensures few { length self.now ≤ 256 }
+        ensures few { length self.now ≤ most_monomials }
     {
         &self.monomials
     }

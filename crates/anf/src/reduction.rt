@@ -1,70 +1,81 @@
 //! Lists of monomials in which some arise more than once.
 
-ghost use Rattle.std.specs.Prelude.{◌≡◌, ◌<◌, ◌≤◌, length, IfOk, IfErr, OnOk, Err};
+ghost use Rattle.std.specs.Prelude.{◌≡◌, ◌<◌, ◌≤◌, length, map, All, IfOk, OnOk, Err};
 ghost use Rattle.std.specs.List.Sorted.{IsSorted};
-ghost use Rattle.std.specs.Cmp.Lexicographic.{slice_cmp};
 ghost use Rattle.std.specs.Ordering.{nat_cmp};
 ghost use Rattle.gadget_model.specs.Polynomials.{odd_ones};
-ghost use Rattle.anf.specs.Polynomials.{IsSetOf};
-ghost use Rattle.anf.specs.Monomials.{sets_of, AreRising, AreSmall, AreInOrder};
-ghost use Rattle.anf.specs.Reduction.{ends_in, with_monomial, HaveSameParities};
-ghost use Rattle.anf.specs.declared.poly_error.PolyError.TheVariants.{TooWide, OutOfMemory};
+ghost use Rattle.gadget_model.specs.Limits.{most_monomials};
+ghost use Rattle.anf.specs.Polynomials.{IsSetOf, set_of};
+ghost use Rattle.anf.specs.Monomials.{lists_of};
+ghost use Rattle.anf.specs.Keys.{key_of, HaveKey};
+ghost use Rattle.anf.specs.Reduction.{ends_in, with_monomial, HaveRisingKeys, HaveSameParities};
+ghost use Rattle.anf.specs.declared.poly_error.PolyError.TheVariants.{TooWide};
 
+use crate::key::Key;
 use crate::{Monomial, Poly, PolyError};
-use std::alloc::{AllocFailed, Global};
+use std::alloc::{AllocError, AllocFailed, Global};
 
-// The most monomials that a polynomial may have.
-const MOST: usize = 256;
+// A polynomial has at most this many monomials.
+const MOST_MONOMIALS: usize = 256;
 
-// Whether the last of the monomials has the variables of this one.
-fn ends_in(monomials: &[Monomial], monomial: &Monomial) -> bool
-    ensures { result ≡ ends_in monomials.now monomial.now }
+// Whether the last of the keys is this one.
+fn ends_in(keys: &[Key], key: Key) -> bool
+    ensures { result ≡ ends_in keys.now key }
 {
-    monomials.last().is_some_and(|last| *last == *monomial)
+    keys.last().is_some_and(|last| *last == key)
 }
 
-// Adds a monomial, which cancels the last one where they are the same.
-fn add(kept: &mut Vec<Monomial>, monomial: Monomial) -> Result<(), AllocFailed<Monomial>>
-    ensures { OnOk result (kept.new.items ≡ with_monomial kept.old.items monomial) }
+// Adds a key, which cancels the last one where they are the same.
+fn add(kept: &mut Vec<Key>, key: Key) -> Result<(), AllocFailed<Key>>
+    ensures { OnOk result (kept.new.items ≡ with_monomial kept.old.items key) }
 {
-    if ends_in(kept, &monomial) {
+    if ends_in(kept, key) {
         kept.pop();
         Ok(())
     } else {
-        kept.push(monomial)
+        kept.push(key)
     }
 }
 
-// The sum of monomials in order: those that arise an odd number of times.
-fn sum_of_sorted(alloc: Global, sorted: Vec<Monomial>) -> Result<Vec<Monomial>, PolyError>
-    requires rising { AreRising sorted.items }
-    requires small { AreSmall sorted.items }
-    requires sorted { IsSorted (λ a b. slice_cmp nat_cmp a.items b.items) sorted.items }
-    ensures rising { IfOk result (λ kept. AreRising kept.items) }
-    ensures small { IfOk result (λ kept. AreSmall kept.items) }
-    ensures sorted { IfOk result (λ kept. AreInOrder kept.items) }
-    ensures parities { IfOk result (λ kept. HaveSameParities kept.items sorted.items) }
-    ensures memory { IfErr result (λ e. e ≡ OutOfMemory) }
+// The sum of monomials in the order of their keys: those that arise an odd number of times.
+fn sum_of_sorted(alloc: Global, sorted: &[Key]) -> Result<Vec<Key>, AllocError>
+    requires keys { All HaveKey sorted.now }
+    requires sorted { IsSorted (λ a b. nat_cmp (key_of a) (key_of b)) sorted.now }
+    ensures keys { IfOk result (λ kept. All HaveKey kept.items) }
+    ensures rising { IfOk result (λ kept. HaveRisingKeys kept.items) }
+    ensures parities { IfOk result (λ kept. HaveSameParities kept.items sorted.now) }
 {
     let mut kept = Vec::new(alloc);
-    for monomial in sorted {
-        add(&mut kept, monomial)?;
+    for key in sorted {
+        add(&mut kept, *key)?;
     }
     Ok(kept)
 }
 
-// The monomials that arise an odd number of times.
-pub(crate) fn odd_ones(alloc: Global, mut candidates: Vec<Monomial>) -> Result<Poly, PolyError>
-    requires rising { AreRising candidates.items }
-    requires small { AreSmall candidates.items }
-    ensures odd { IfOk result (IsSetOf (odd_ones (sets_of candidates.items))) }
-    ensures few { OnOk result (length (odd_ones (sets_of candidates.items)) ≤ 256) }
-    ensures too_wide { result ≡ Err TooWide → 256 < length (odd_ones (sets_of candidates.items)) }
+// The monomials with these keys.
+fn monomials(alloc: Global, keys: &[Key]) -> Result<Vec<Monomial>, AllocError>
+    ensures { IfOk result (λ monomials. lists_of monomials.items ≡ keys.now) }
 {
-    candidates.sort_unstable();
-    let monomials = sum_of_sorted(alloc, candidates)?;
-    if monomials.len() > MOST {
+    let mut monomials = Vec::new(alloc);
+    for key in keys {
+        monomials.push(key.monomial(alloc)?)?;
+    }
+    Ok(monomials)
+}
+
+// The monomials that arise an odd number of times.
+pub(crate) fn odd_ones(alloc: Global, mut keys: Vec<Key>) -> Result<Poly, PolyError>
+    requires { All HaveKey keys.items }
+    ensures odd { IfOk result (IsSetOf (odd_ones (map set_of keys.items))) }
+    ensures few { OnOk result (length (odd_ones (map set_of keys.items)) ≤ most_monomials) }
+    ensures too_wide { result ≡ Err TooWide → most_monomials < length (odd_ones (map set_of keys.items)) }
+{
+    keys.sort_unstable();
+    let kept = sum_of_sorted(alloc, &keys)?;
+    if kept.len() > MOST_MONOMIALS {
         return Err(PolyError::TooWide);
     }
-    Ok(Poly { monomials })
+    Ok(Poly {
+        monomials: monomials(alloc, &kept)?,
+    })
 }

@@ -2,6 +2,7 @@
 -- (Belaid et al., CRYPTO 2020), and no wire is of degree above two in the shares.
 use Rattle.std.specs.Prelude.{◌≡◌, ◌≢◌, ℕ, ◌<◌, List, length, Contains, Some, slice_get}
 use Rattle.gadget_model.specs.Circuit.{Circuit, nodes, share, random}
+use Rattle.gadget_model.specs.Limits.{most_monomials}
 use Rattle.gadget_model.specs.Polynomials.{HasVariable, polynomial}
 
 -- a variable is an input share
@@ -26,9 +27,9 @@ pub data Fault : Type 0 where
   random_product : Fault
   degree : Fault
 
--- a polynomial has over 256 monomials
+-- a polynomial has more monomials than are allowed
 abbrev pub IsTooWide : List ℕ → Type 0
-IsTooWide p = 256 < length p
+IsTooWide p = most_monomials < length p
 
 -- some monomial of a polynomial has a random and another variable
 abbrev pub HasRandomProduct : Circuit → List ℕ → Type 0

@@ -1,6 +1,6 @@
 pub mod Bits
 pub mod Circuit
 pub mod Simulation
+pub mod Limits
 pub mod Polynomials
 pub mod Classes
-pub mod Limits

@@ -1,4 +1,5 @@
 -- What the tests of a polynomial say of the class.
+use Rattle.gadget_model.specs.Limits.{most_monomials}
 use Rattle.std.proofs.Common.{◌≡◌, ◌≢◌, ℕ, ◌<◌, ◌≤◌, ◌⊎◌, Bool, true, false, ◌&&◌, ltb, List, [], ◌∷◌, length, get_or, refl, ap, sym, ◌∙◌, subst, inl, inr, arith, Contains, Some}
 use Rattle.std.specs.Prelude.{slice_get}
 use Rattle.std.specs.List.{All}
@@ -21,6 +22,7 @@ use Rattle.gadget_tree.specs.Gadgets.{IsGadget}
 use Rattle.gadget_tree.specs.Seen.{variable_of, variables_of}
 use Rattle.anf.specs.Polynomials.{IsSetOf, HasThreeVariables, HasFewVariables, set_of}
 use Rattle.anf.specs.Monomials.{sets_of, AreRising}
+use Rattle.anf.proofs.FewVariables.{HasThreeVariables-from_length}
 use Rattle.anf.proofs.Sets.{bit_from_Contains, Contains-from_bit}
 use Rattle.wire_table.specs.Refusals.{IsLineOf}
 use Rattle.wire_table.specs.Terms.{node_at}
@@ -123,23 +125,6 @@ test_from_HasRandomProduct g vars e ms (m, among, mult) =
     list_any-from_Any (λ m. multiplies_random vars m.items) ms
     (r.1.0, r.0, r.1.1, r.1.2, test_from_MultipliesRandom g vars e r.0.items (subst P (sym r.2) mult))
 
--- a rising list of three or more has three variables
-HasThreeVariables-from_length : (vs : List ℕ) → IsStrictlyIncreasing vs → 2 < length vs → HasThreeVariables (set_of vs)
-HasThreeVariables-from_length [] up more = absurd (omega arith)
-HasThreeVariables-from_length (a ∷ []) up more = absurd (omega arith)
-HasThreeVariables-from_length (a ∷ b ∷ []) up more = absurd (omega arith)
-HasThreeVariables-from_length (a ∷ b ∷ c ∷ vs) up more =
-    let all = a ∷ b ∷ c ∷ vs in (
-      a,
-      b,
-      c,
-      up 0 (omega arith),
-      up 1 (omega arith),
-      bit_from_Contains all a (Contains-cons_head a (b ∷ c ∷ vs)),
-      bit_from_Contains all b (Contains-cons_tail a (b ∷ c ∷ vs) b (Contains-cons_head b (c ∷ vs))),
-      bit_from_Contains all c (Contains-cons_tail a (b ∷ c ∷ vs) c (Contains-cons_tail b (c ∷ vs) c (Contains-cons_head c vs))),
-    )
-
 one_of_two : (a b v : ℕ) → Contains (a ∷ b ∷ []) v → (a ≡ v) ⊎ (b ≡ v)
 one_of_two a b v h = elim (Contains-cons_cases a (b ∷ []) v h) [
   | inl e ↦ inl e
@@ -203,7 +188,7 @@ pub HasDegreeAboveTwo-along : (g : Circuit) (p q : List ℕ) → ((m : ℕ) → 
 HasDegreeAboveTwo-along g p q to (m, among, h) = (m, to m among, h)
 
 -- the polynomial that was computed is as wide as that of the variable
-pub not_too_wide : (g : Circuit) (v : ℕ) (p : List ℕ) → IsSetOf (polynomial g v) p → length p ≤ 256 → IsTooWide (polynomial g v) → ⊥
+pub not_too_wide : (g : Circuit) (v : ℕ) (p : List ℕ) → IsSetOf (polynomial g v) p → length p ≤ most_monomials → IsTooWide (polynomial g v) → ⊥
 not_too_wide g v p same few wide = let e = length-same p (polynomial g v) same.once (once-polynomial g v) same.same in omega arith
 
 -- the polynomial of a variable is over leaves
@@ -229,7 +214,7 @@ monomials_within g vars good e v ms same i d l j d' l' =
 
 -- what the two tests say of a variable
 pub random_product_from_test : (g : Circuit) (vars : List Var) → IsGadget g → variables_of vars ≡ g.variables → (v : ℕ) (ms : List (SmallVec ℕ)) →
-    IsSetOf (polynomial g v) (sets_of ms) → length (sets_of ms) ≤ 256 → AreRising ms → any_multiplies_random vars ms ≡ true → HasFault g v random_product
+    IsSetOf (polynomial g v) (sets_of ms) → length (sets_of ms) ≤ most_monomials → AreRising ms → any_multiplies_random vars ms ≡ true → HasFault g v random_product
 random_product_from_test g vars good e v ms same few rising h = (
   not_too_wide g v (sets_of ms) same few,
   HasRandomProduct-along g (sets_of ms) (polynomial g v) (λ m. (same.same m).0)
@@ -243,7 +228,7 @@ no_random_product g vars e v ms same h has =
     (sym (test_from_HasRandomProduct g vars e ms (HasRandomProduct-along g (polynomial g v) (sets_of ms) (λ m. (same.same m).1) has)) ∙ h)
 
 pub degree_from_tests : (g : Circuit) (vars : List Var) → IsGadget g → variables_of vars ≡ g.variables → (v : ℕ) (ms : List (SmallVec ℕ)) →
-    IsSetOf (polynomial g v) (sets_of ms) → length (sets_of ms) ≤ 256 → AreRising ms → any_multiplies_random vars ms ≡ false → any_above_two ms ≡ true →
+    IsSetOf (polynomial g v) (sets_of ms) → length (sets_of ms) ≤ most_monomials → AreRising ms → any_multiplies_random vars ms ≡ false → any_above_two ms ≡ true →
     HasFault g v degree
 degree_from_tests g vars good e v ms same few rising none h = (
   not_too_wide g v (sets_of ms) same few,
@@ -254,7 +239,7 @@ degree_from_tests g vars good e v ms same few rising none h = (
 )
 
 pub IsFit-from_tests : (g : Circuit) (vars : List Var) → variables_of vars ≡ g.variables → (v : ℕ) (ms : List (SmallVec ℕ)) →
-    IsSetOf (polynomial g v) (sets_of ms) → length (sets_of ms) ≤ 256 → any_multiplies_random vars ms ≡ false → any_above_two ms ≡ false → IsFit g v
+    IsSetOf (polynomial g v) (sets_of ms) → length (sets_of ms) ≤ most_monomials → any_multiplies_random vars ms ≡ false → any_above_two ms ≡ false → IsFit g v
 IsFit-from_tests g vars e v ms same few none h = (
   not_too_wide g v (sets_of ms) same few,
   no_random_product g vars e v ms same none,
