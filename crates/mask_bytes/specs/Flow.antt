@@ -1,6 +1,10 @@
 -- What several reads or writes, one after another, leave of known bytes.
-use Rattle.std.specs.Prelude.{◌≡◌, ℕ, ◌<◌, ◌≤◌, List, length, take, Option, IfSome}
+use Rattle.std.specs.Prelude.{◌≡◌, ℕ, ◌^◌, ◌<◌, ◌≤◌, List, length, take, Option, IfSome}
 use Rattle.std.specs.Io.KnownBytes.{prepend_known, append_known}
+
+-- A whole read can be allowed at most this many bytes.
+abbrev pub most_read : ℕ
+most_read = 2 ^ 30
 
 -- what is left is the end of what was left: some bytes were taken from its front, or none
 abbrev pub LeavesSuffix : Option (List ℕ) → Option (List ℕ) → Type 0

@@ -1,5 +1,6 @@
 //! Each answer of the calls once, and std's readers and writers.
 ghost use Rattle.std.specs.Prelude.{◌≡◌, ◌≤◌};
+ghost use Rattle.mask_bytes.specs.Flow.{most_read};
 
 use crate::{
     Failed, MemSink, MemSource, OutOfMemory, ReadError, Sink, Source, StdSink, StdSource,
@@ -87,7 +88,7 @@ impl Write for Late {
 
 /// A source that never fails has no read fault.
 fn read_surely(alloc: Global, bytes: Vec<u8>, max: usize) -> Result<Vec<u8>, ReadError>
-    requires { max ≤ 1073741824 }
+    requires { max ≤ most_read }
     ensures { result ≡ Err ReadError.ReadFault → ⊥ }
 {
     read_whole(alloc, &mut SureSource::make(bytes), max)

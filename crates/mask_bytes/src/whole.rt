@@ -2,7 +2,7 @@
 ghost use Rattle.std.specs.Prelude.{◌≡◌, ◌≢◌, ◌+◌, ◌≤◌, [], length, vec_len, IfOk, IfErr, IfSome, OnOk, OnErr, IsOk};
 ghost use Rattle.std.specs.Io.KnownBytes.{append_known, IsAtEnd};
 ghost use Rattle.mask_bytes.specs.Counts.{Rose};
-ghost use Rattle.mask_bytes.specs.Flow.{LeavesSuffix, LosesCount, LosesAtMost, IsLonger, AppendsProperPrefix};
+ghost use Rattle.mask_bytes.specs.Flow.{most_read, LeavesSuffix, LosesCount, LosesAtMost, IsLonger, AppendsProperPrefix};
 
 use crate::error::{Failed, ReadError};
 use crate::sink::Sink;
@@ -12,14 +12,14 @@ use std::alloc::Global;
 /// How many bytes a single read asks for at most.
 const BUFFER_LENGTH: usize = 4096;
 
-/// Reads to the end of the source, up to `max` bytes. To tell that there are more it reads one byte
+/// Reads to the end of the source, up to `max` bytes, of which 1,073,741,824 may be allowed. To tell that there are more it reads one byte
 /// past `max`.
 pub fn read_whole<S: Source>(
     alloc: Global,
     source: &mut S,
     max: usize,
 ) -> Result<Vec<u8>, ReadError>
-    requires { max ≤ 1073741824 }
+    requires { max ≤ most_read }
 
     // All that was left, where the source tells it.
     ensures whole { IfOk result (λ bytes. IfSome (S.left source.old) (λ left. bytes.items ≡ left)) }

@@ -17,7 +17,7 @@ use Rattle.gadget_tree.specs.Gadgets.{IsGadget}
 use Rattle.gadget_tree.specs.Seen.{node_of, variables_of}
 use Rattle.bit_lists.specs.SetSums.{set_sum}
 use Rattle.wire_table.specs.declared.terms.Terms.{Terms}
-use Rattle.wire_table.specs.Tables.{Table, IsTable, StandsFor, has_bit, words_for, random_at, shares_value, randoms_value, row_bits, product_values, operands, uses_of}
+use Rattle.wire_table.specs.Tables.{Table, IsTable, StandsFor, has_bit, words_for, random_at, shares_value, randoms_value, row_bits, product_values, operands, uses_of, most_products}
 use Rattle.bit_lists.specs.BitLists.{chosen_sum}
 use Rattle.wire_table.specs.Terms.{IsShareProduct, AreTermsOf, products_of}
 use Rattle.wire_table.specs.UseCounts.{uses_among}
@@ -64,7 +64,7 @@ all_among terms products all i d l j e m =
     all (get_or (f t) j e) (Contains-flat_map f terms t (get_or (f t) j e) (Contains-get_or terms i d l) (Contains-get_or (f t) j e m))
 
 pub few_from_terms : (g : Circuit) → IsGadget g → (ps : List (List ℕ)) (terms : List Terms) (products : List ℕ) → AllZip (AreTermsOf g) ps terms →
-    IsStrictlyIncreasing products → ((set : ℕ) → Contains products set → Contains (products_of terms) set) → length products ≤ 4096
+    IsStrictlyIncreasing products → ((set : ℕ) → Contains products set → Contains (products_of terms) set) → length products ≤ most_products
 few_from_terms g good ps terms products zip up within =
     few_products g good products up (λ i d l. all_share_products g ps terms zip (get_or products i d) (within (get_or products i d) (Contains-get_or products i d l)))
 

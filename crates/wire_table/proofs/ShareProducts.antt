@@ -19,6 +19,7 @@ use Rattle.gadget_model.specs.Simulation.{HasShare}
 use Rattle.gadget_tree.specs.Gadgets.{IsGadget, IsInputShare}
 use Rattle.anf.specs.Polynomials.{set_of}
 use Rattle.anf.proofs.Sets.{Contains-from_bit}
+use Rattle.wire_table.specs.Tables.{most_products}
 use Rattle.wire_table.specs.Terms.{IsShareProduct}
 use Rattle.wire_table.proofs.Monomials.{below-from_IsInputShare}
 
@@ -39,7 +40,7 @@ product_at-pair a b le l = elim (eqb_tells (a * 64 + b) 64) [
 ]
 
 -- each product of at most two shares has a number
-number_of : (shares : List ℕ) → length shares ≤ 2 → All (λ k. k < 64) shares → (c : ℕ) × (c < 4096) × (product_at c ≡ set_of shares)
+number_of : (shares : List ℕ) → length shares ≤ 2 → All (λ k. k < 64) shares → (c : ℕ) × (c < most_products) × (product_at c ≡ set_of shares)
 unfolding product_at
 number_of [] few below = (64, omega arith, refl)
 number_of (a ∷ []) few below =
@@ -58,7 +59,7 @@ number_of (a ∷ b ∷ c ∷ shares) few below = absurd (omega arith)
 below_64 : (g : Circuit) → IsGadget g → (set : ℕ) (p : IsShareProduct g set) → All (λ k. k < 64) p.shares
 below_64 g good set p i d l = below-from_IsInputShare g good (get_or p.shares i d) (p.inputs i d l)
 
-products_within : (g : Circuit) → IsGadget g → (n : ℕ) → 4096 ≤ n → (products : List ℕ) → Once products → All (IsShareProduct g) products → length products ≤ n
+products_within : (g : Circuit) → IsGadget g → (n : ℕ) → most_products ≤ n → (products : List ℕ) → Once products → All (IsShareProduct g) products → length products ≤ n
 products_within g good n enough products once all =
     let numbers = range_with_len 0 n in
     let m = length-map-range_with_len product_at 0 n in
@@ -77,9 +78,9 @@ products_within g good n enough products once all =
 pub once_from_rising : (xs : List ℕ) → IsStrictlyIncreasing xs → AllPairs (λ (a b : ℕ). a ≢ b) xs
 once_from_rising xs up i j d l m e = let h = AllPairs-from_increasing xs up i j d l m in absurd (omega arith)
 
--- there are at most 4096 products
-pub few_products : (g : Circuit) → IsGadget g → (products : List ℕ) → IsStrictlyIncreasing products → All (IsShareProduct g) products → length products ≤ 4096
-few_products g good products up all = products_within g good 4096 (omega arith) products (once_from_rising products up) all
+-- there are few products
+pub few_products : (g : Circuit) → IsGadget g → (products : List ℕ) → IsStrictlyIncreasing products → All (IsShareProduct g) products → length products ≤ most_products
+few_products g good products up all = products_within g good most_products (omega arith) products (once_from_rising products up) all
 
 set_of-below : (n : ℕ) (ks : List ℕ) → All (λ k. k < n) ks → set_of ks < 2 ^ n
 set_of-below n [] all = pow_pos n

@@ -1,4 +1,5 @@
 -- The sum of terms, one monomial more.
+use Rattle.gadget_model.specs.Limits.{most_randoms}
 use Rattle.std.proofs.Common.{◌≡◌, ℕ, ◌+◌, ◌*◌, ◌%◌, ◌^◌, ◌<◌, ◌≤◌, Bool, List, [], ◌∷◌, ◌++◌, length, take, get_or, ap, sym, ◌∙◌, subst, arith, Contains}
 use Rattle.std.specs.Prelude.{bit_xor}
 use Rattle.std.specs.List.Sorted.{IsStrictlyIncreasing}
@@ -84,7 +85,7 @@ sets_of-more ms i item vs l is e =
 -- a step of the loop at a random
 pub SumTo-more_random : (g : Circuit) (ms : List (SmallVec ℕ)) (i : ℕ) (item : SmallVec ℕ) (vs : List ℕ) (k randoms next : ℕ) (products same : List ℕ) →
     i < length ms → item ≡ get_or ms i item → vs ≡ item.items → SumTo g (sets_of (take i ms)) randoms products → IsTermOf g (set_of vs) (Random k) →
-    g.randoms ≤ 128 → next ≡ bit_xor randoms ((1 * 2 ^ k) % 2 ^ 128) → same ≡ products → SumTo g (sets_of (take (i + 1) ms)) next same
+    g.randoms ≤ most_randoms → next ≡ bit_xor randoms ((1 * 2 ^ k) % 2 ^ 128) → same ≡ products → SumTo g (sets_of (take (i + 1) ms)) next same
 SumTo-more_random g ms i item vs k randoms next products same l is e sum term few flipped kept =
     let P : List ℕ → Type 0 = λ p. SumTo g p next same in
     let Q : ℕ → Type 0 = λ n. SumTo g (sets_of (take i ms) ++ set_of vs ∷ []) n same in

@@ -1,4 +1,5 @@
 -- The polynomials that are computed are those of the gadget's variables.
+use Rattle.gadget_model.specs.Limits.{most_monomials}
 use Rattle.std.proofs.Common.{◌≡◌, ◌≢◌, ◌↔◌, ℕ, ◌^◌, ◌<◌, ◌≤◌, Bool, List, [], ◌∷◌, ◌++◌, length, get_or, ap, sym, ◌∙◌, subst, inl, inr, arith, Contains, Some}
 use Rattle.std.specs.Prelude.{slice_get}
 use Rattle.std.specs.List.{All, AllPairs}
@@ -101,7 +102,7 @@ IsSetOf-next g good ps are node at p set =
     record { same = λ m. ((λ h. (s.members m).0 ((set.same m).0 h)), (λ h. (set.same m).1 ((s.members m).1 h))); once = set.once }
 
 pub IsTooWide-next : (g : Circuit) → IsGadget g → (ps : List (List ℕ)) → ArePolynomials g ps → (node : Node) → slice_get (nodes g) (length ps) ≡ Some node →
-    256 < length (polynomial_of (polynomial_at ps) (length ps) node) → IsTooWide (polynomial g (length ps))
+    most_monomials < length (polynomial_of (polynomial_at ps) (length ps) node) → IsTooWide (polynomial g (length ps))
 IsTooWide-next g good ps are node at wide =
     let s = next_same g good ps are node at in
     let e = length-same (polynomial_of (polynomial_at ps) (length ps) node) (polynomial g (length ps)) s.once s.once' s.members in

@@ -4,6 +4,7 @@ use Rattle.std.specs.List.{range_with_len}
 use Rattle.std.specs.Int.{bit_at}
 use Rattle.gadget_model.specs.Bits.{add}
 use Rattle.gadget_model.specs.Circuit.{Circuit, Node, share, random, copy, sum_of, product_of, nodes, value}
+use Rattle.gadget_model.specs.Limits.{most_variables}
 use Rattle.gadget_model.specs.Simulation.{HasShare}
 use Rattle.gadget_model.specs.Polynomials.{set_product}
 use Rattle.gadget_tree.specs.Gadgets.{IsInputShare}
@@ -59,12 +60,16 @@ uses_of g v = count_by (λ a. a == v) (flat_map operands (nodes g))
 abbrev pub words_for : ℕ → ℕ
 words_for n = (n + 63) / 64
 
+-- There are at most this many products of at most two of 64 input shares.
+abbrev pub most_products : ℕ
+most_products = 4096
+
 -- what holds of each table: there is a row of each kind for each variable, and the words of a share row have a bit for each product
 pub record IsTable (t : Table) : Type 0 where
-  pub few_variables : length t.random_rows ≤ 511
+  pub few_variables : length t.random_rows ≤ most_variables
   pub every_share_row : length t.share_rows ≡ length t.random_rows
   pub every_use : length t.uses ≡ length t.random_rows
-  pub few_products : length t.products ≤ 4096
+  pub few_products : length t.products ≤ most_products
   pub words : All (λ row. length row ≡ words_for (length t.products)) t.share_rows
   pub small_products : All (λ p. p < 2 ^ 64) t.products
 

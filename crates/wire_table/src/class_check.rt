@@ -11,9 +11,8 @@ ghost use Rattle.wire_table.specs.Terms.{node_at};
 ghost use Rattle.wire_table.specs.WirePolynomials.{is_random, has_random, multiplies_random, any_multiplies_random, any_above_two};
 
 use crate::wire_error::WireError;
-use anf::Poly;
+use anf::{Monomial, Poly};
 use gadget_tree::{Gadget, Var, VarKind};
-use smallvec::SmallVec;
 
 // Whether a variable is a random.
 fn is_random(kind: VarKind) -> bool
@@ -47,7 +46,7 @@ fn multiplies_random(vars: &[Var], monomial: &[u16]) -> bool
 }
 
 // Whether some monomial has a random and another variable.
-fn any_multiplies_random(vars: &[Var], monomials: &[SmallVec<u16, 4>]) -> bool
+fn any_multiplies_random(vars: &[Var], monomials: &[Monomial]) -> bool
     requires { All (λ m. All (λ v. v < length vars.now) m.items) monomials.now }
     ensures { result ≡ any_multiplies_random vars.now monomials.now }
 {
@@ -57,7 +56,7 @@ fn any_multiplies_random(vars: &[Var], monomials: &[SmallVec<u16, 4>]) -> bool
 }
 
 // Whether some monomial has over two variables.
-fn any_above_two(monomials: &[SmallVec<u16, 4>]) -> bool
+fn any_above_two(monomials: &[Monomial]) -> bool
     ensures { result ≡ any_above_two monomials.now }
 {
     monomials.iter().any(|monomial| monomial.len() > 2)

@@ -2,6 +2,8 @@
 
 ghost use Rattle.std.specs.Prelude.{◌≡◌, ◌≢◌, ◌<◌, ◌≤◌, length, All, AllPairs, IfOk, IfErr, Err};
 ghost use Rattle.gadget_model.specs.Circuit.{NamesEarlier};
+ghost use Rattle.gadget_model.specs.Classes.{IsTooWide};
+ghost use Rattle.gadget_model.specs.Limits.{most_randoms};
 ghost use Rattle.gadget_model.specs.Polynomials.{polynomial_of};
 ghost use Rattle.anf.specs.Polynomials.{IsSetOf, HasFewVariables};
 ghost use Rattle.anf.specs.declared.poly_error.PolyError.TheVariants.{TooWide};
@@ -22,11 +24,12 @@ fn polynomial_of(
     number: u16,
     kind: VarKind,
 ) -> Result<Poly, PolyError>
-    requires named { NamesEarlier 128 (length earlier.now) (node_of kind) }
+    requires named { NamesEarlier most_randoms (length earlier.now) (node_of kind) }
     requires once { All (AllPairs (λ a b. a ≢ b)) earlier.now }
     requires few { All HasFewVariables earlier.now }
     ensures ok { IfOk result (IsSetOf (polynomial_of (polynomial_at earlier.now) number (node_of kind))) }
-    ensures too_wide { result ≡ Err TooWide → 256 < length (polynomial_of (polynomial_at earlier.now) number (node_of kind)) }
+    ensures too_wide { result ≡ Err TooWide →
+        IsTooWide (polynomial_of (polynomial_at earlier.now) number (node_of kind)) }
 {
     match kind {
         VarKind::Share { .. } | VarKind::Random(_) => Poly::variable(alloc, number),

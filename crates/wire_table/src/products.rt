@@ -21,8 +21,10 @@ fn all_products(alloc: Global, terms: &[Terms]) -> Result<Vec<u64>, AllocError>
 /// The products of all terms, each once, in rising order.
 pub(crate) fn products(alloc: Global, terms: &[Terms]) -> Result<Vec<u64>, AllocError>
     ensures rising { IfOk result (λ products. IsStrictlyIncreasing products.items) }
-    ensures all { IfOk result (λ products. (set : ℕ) → Contains (products_of terms.now) set → Contains products.items set) }
-    ensures no_others { IfOk result (λ products. (set : ℕ) → Contains products.items set → Contains (products_of terms.now) set) }
+    ensures all { IfOk result (λ products. (set : ℕ) →
+        Contains (products_of terms.now) set → Contains products.items set) }
+    ensures no_others { IfOk result (λ products. (set : ℕ) →
+        Contains products.items set → Contains (products_of terms.now) set) }
 {
     let mut products = all_products(alloc, terms)?;
     products.sort_unstable();

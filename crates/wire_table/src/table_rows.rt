@@ -3,7 +3,7 @@
 ghost use Rattle.std.specs.Prelude.{◌≡◌, ◌<◌, ◌≤◌, ◌/◌, length, map, Contains, IfOk, slice_index, replicate};
 ghost use Rattle.std.specs.List.{All, AllZip};
 ghost use Rattle.std.specs.List.Sorted.{IsStrictlyIncreasing};
-ghost use Rattle.wire_table.specs.Tables.{words_for};
+ghost use Rattle.wire_table.specs.Tables.{most_products, words_for};
 ghost use Rattle.wire_table.specs.ShareRows.{flipped, IsShareRow};
 
 use crate::terms::Terms;
@@ -19,7 +19,7 @@ fn flip(row: &mut [u64], place: usize)
 
 // A row without bits, for so many products.
 fn zero_row(alloc: Global, products: usize) -> Result<Vec<u64>, AllocError>
-    requires { products ≤ 4096 }
+    requires { products ≤ most_products }
     ensures { IfOk result (λ row. row.items ≡ replicate (words_for products) 0) }
 {
     vec![in alloc; 0; (products + 63) / 64]
@@ -37,7 +37,7 @@ fn place(products: &[u64], set: u64) -> usize
 
 // The row with the bits of the places of some products.
 fn share_row(alloc: Global, products: &[u64], sets: &[u64]) -> Result<Vec<u64>, AllocError>
-    requires few { length products.now ≤ 4096 }
+    requires few { length products.now ≤ most_products }
     requires rising { IsStrictlyIncreasing products.now }
     requires among { All (Contains products.now) sets.now }
     ensures { IfOk result (λ row. IsShareRow products.now sets.now row.items) }
@@ -55,10 +55,11 @@ pub(crate) fn share_rows(
     products: &[u64],
     terms: &[Terms],
 ) -> Result<Vec<Vec<u64>>, AllocError>
-    requires few { length products.now ≤ 4096 }
+    requires few { length products.now ≤ most_products }
     requires rising { IsStrictlyIncreasing products.now }
     requires among { All (λ t. All (Contains products.now) t.products.items) terms.now }
-    ensures { IfOk result (λ rows. AllZip (λ t row. IsShareRow products.now t.products.items row.items) terms.now rows.items) }
+    ensures { IfOk result
+        (λ rows. AllZip (λ t row. IsShareRow products.now t.products.items row.items) terms.now rows.items) }
 {
     let mut rows = Vec::new(alloc);
     for t in terms {

@@ -2,6 +2,7 @@
 
 ghost use Rattle.std.specs.Prelude.{◌≡◌, ◌==◌, ◌≤◌, length, map, count_by, IfOk};
 ghost use Rattle.std.specs.List.{range_with_len};
+ghost use Rattle.gadget_model.specs.Limits.{most_variables};
 ghost use Rattle.gadget_tree.specs.Seen.{node_of};
 ghost use Rattle.wire_table.specs.Tables.{operands};
 ghost use Rattle.wire_table.specs.UseCounts.{uses_among};
@@ -23,7 +24,7 @@ fn places(kind: VarKind, v: u16) -> u32
 
 // How many operand places name a variable.
 fn uses_of(vars: &[Var], v: u16) -> u32
-    requires { length vars.now ≤ 511 }
+    requires { length vars.now ≤ most_variables }
     ensures { result ≡ uses_among vars.now v }
 {
     let mut uses = 0;
@@ -35,7 +36,7 @@ fn uses_of(vars: &[Var], v: u16) -> u32
 
 /// How many operand places name each variable.
 pub(crate) fn uses(alloc: Global, vars: &[Var]) -> Result<Vec<u32>, AllocError>
-    requires { length vars.now ≤ 511 }
+    requires { length vars.now ≤ most_variables }
     ensures { IfOk result (λ uses. uses.items ≡ map (uses_among vars.now) (range_with_len 0 (length vars.now))) }
 {
     let count = vars.len() as u16;

@@ -1,3 +1,4 @@
+use Rattle.gadget_model.specs.Limits.{most_randoms}
 use Rattle.std.proofs.Common.{length, get_or, refl, Err, ap, ◌∙◌}
 use Rattle.gadget_tree.specs.Seen.{node_of}
 use Rattle.wire_table.proofs.Faults.{IsLineOf-at}
@@ -11,7 +12,7 @@ polynomial_of-requires-clause-named c =
     let n = length c.args.earlier.now in
     let d = c.index-vars-number-2.result in
     let node = node_of (get_or vars.result.now n d).kind in
-    NamesEarlier-more g.randoms 128 n node vars.ensures.gadget.few_randoms
+    NamesEarlier-more g.randoms most_randoms n node vars.ensures.gadget.few_randoms
     (vars.ensures.gadget.in_order n node (node_at_place g vars.result.now n d vars.ensures.variables c.requires.there))
 
 pub polynomial_of-requires-clause-once : goal.polynomial_of-requires-clause-once

@@ -1,3 +1,4 @@
+use Rattle.gadget_model.specs.Limits.{most_randoms}
 use Rattle.std.proofs.Common.{ℕ, List, length, sym, subst, arith}
 use Rattle.gadget_model.specs.Circuit.{NamesEarlier}
 use Rattle.gadget_tree.specs.declared.var.VarKind.{VarKind}
@@ -8,7 +9,7 @@ use Rattle.wire_table.proofs.polynomials.polynomial_of.Goals as goal
 pub product-requires-clause-few_a : goal.product-requires-clause-few_a
 product-requires-clause-few_a c =
     let P : List ℕ → Type 0 = λ p. HasFewVariables p in
-    let N : VarKind → Type 0 = λ kind. NamesEarlier 128 (length c.args.earlier.now) (node_of kind) in
+    let N : VarKind → Type 0 = λ kind. NamesEarlier most_randoms (length c.args.earlier.now) (node_of kind) in
     let named = subst N c.in-Product.is c.requires.named in
     let at = c.index-earlier-from-in-Product in
     let e = c.from-in-Product.ensures in
@@ -17,7 +18,7 @@ product-requires-clause-few_a c =
 pub product-requires-clause-few_b : goal.product-requires-clause-few_b
 product-requires-clause-few_b c =
     let P : List ℕ → Type 0 = λ p. HasFewVariables p in
-    let N : VarKind → Type 0 = λ kind. NamesEarlier 128 (length c.args.earlier.now) (node_of kind) in
+    let N : VarKind → Type 0 = λ kind. NamesEarlier most_randoms (length c.args.earlier.now) (node_of kind) in
     let named = subst N c.in-Product.is c.requires.named in
     let at = c.index-earlier-from-in-Product-2 in
     let e = c.from-in-Product-2.ensures in

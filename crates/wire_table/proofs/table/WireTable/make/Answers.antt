@@ -1,7 +1,7 @@
 use Rattle.std.proofs.Common.{◌≤◌, ℕ, List, map, length, Contains, ap, sym, ◌∙◌, subst}
 use Rattle.std.specs.List.{All}
 use Rattle.wire_table.specs.declared.terms.Terms.{Terms}
-use Rattle.wire_table.specs.Tables.{IsTable, StandsFor}
+use Rattle.wire_table.specs.Tables.{IsTable, StandsFor, most_products}
 use Rattle.wire_table.specs.Terms.{IsFitPolynomial, products_of}
 use Rattle.wire_table.proofs.WirePolynomials.{all_fit}
 use Rattle.wire_table.proofs.MadeTables.{all_among, few_from_terms, Parts-from_slices, IsTable-made, StandsFor-made}
@@ -17,7 +17,7 @@ pub share_rows-requires-clause-few : goal.share_rows-requires-clause-few
 share_rows-requires-clause-few c =
     let g = c.args.gadget.now in
     let products = c.in_ok-products.products.items in
-    let P : List ℕ → Type 0 = λ ps. length ps ≤ 4096 in
+    let P : List ℕ → Type 0 = λ ps. length ps ≤ most_products in
     subst P (sym c.deref-4.ensures.value)
     (few_from_terms g c.vars-vars.ensures.gadget c.deref.result.now c.in_ok-terms.terms.items products c.in_ok-terms.ensures c.in_ok-products.ensures.rising
     (let T : List Terms → Type 0 = λ ts. (set : ℕ) → Contains products set → Contains (products_of ts) set in
