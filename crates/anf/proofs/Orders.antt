@@ -12,7 +12,7 @@ use Rattle.std.proofs.Math.ListN.{get_or-map}
 use Rattle.smallvec.specs.SmallVec.{SmallVec}
 use Rattle.list_laws.proofs.Counts.{map-map}
 use Rattle.list_laws.proofs.Members.{AllPairs-map, AllPairs-weaker}
-use Rattle.gadget_model.specs.Limits.{most_monomials}
+use Rattle.gadget_limits.specs.Limits.{most_monomials}
 use Rattle.anf.specs.Polynomials.{set_of}
 use Rattle.anf.specs.Monomials.{sets_of, lists_of, AreRising, AreInOrder, IsPoly}
 use Rattle.anf.specs.Keys.{key_of, HaveKey}

@@ -6,7 +6,7 @@ use Rattle.std.specs.Cmp.Lexicographic.{slice_cmp}
 use Rattle.std.specs.Ordering.{nat_cmp}
 use Rattle.std.specs.declared.cmp.Ordering.TheVariants.{Less}
 use Rattle.smallvec.specs.SmallVec.{SmallVec}
-use Rattle.gadget_model.specs.Limits.{most_monomials}
+use Rattle.gadget_limits.specs.Limits.{most_monomials}
 use Rattle.anf.specs.Polynomials.{set_of}
 
 -- the monomials as sets

@@ -2,7 +2,7 @@
 
 ghost use Rattle.std.specs.Prelude.{◌≡◌, ◌<◌, ◌≤◌, ◌+◌, ◌++◌, ◌↔◌, length, map, bit_or, All, IfOk, OnOk, Err, IsTrue};
 ghost use Rattle.gadget_model.specs.Polynomials.{symmetric_difference, odd_ones, unions};
-ghost use Rattle.gadget_model.specs.Limits.{most_monomials};
+ghost use Rattle.gadget_limits.specs.Limits.{most_monomials};
 ghost use Rattle.anf.specs.Polynomials.{IsSetOf, HasFewVariables, Occurs, set_of};
 ghost use Rattle.anf.specs.Monomials.{sets_of, IsRising, AreRising, AreSmall, ArePairs};
 ghost use Rattle.anf.specs.Keys.{HaveKey};

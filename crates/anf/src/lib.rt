@@ -10,6 +10,3 @@ mod reduction;
 pub use arithmetic::{occurs, product, sum};
 pub use poly::{Monomial, Poly};
 pub use poly_error::PolyError;
-
-#[cfg(test)]
-mod tests;

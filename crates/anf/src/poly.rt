@@ -1,7 +1,7 @@
 //! Polynomials, and their readers.
 
 ghost use Rattle.std.specs.Prelude.{◌≡◌, ◌≢◌, ◌≤◌, ◌^◌, [], ◌∷◌, length, AllPairs, IfOk, IfErr};
-ghost use Rattle.gadget_model.specs.Limits.{most_monomials};
+ghost use Rattle.gadget_limits.specs.Limits.{most_monomials};
 ghost use Rattle.anf.specs.Monomials.{sets_of, AreRising, AreSmall, AreInOrder};
 ghost use Rattle.anf.specs.declared.poly_error.PolyError.TheVariants.{OutOfMemory};
 

@@ -4,7 +4,7 @@ ghost use Rattle.std.specs.Prelude.{◌≡◌, ◌<◌, ◌≤◌, length, map, 
 ghost use Rattle.std.specs.List.Sorted.{IsSorted};
 ghost use Rattle.std.specs.Ordering.{nat_cmp};
 ghost use Rattle.gadget_model.specs.Polynomials.{odd_ones};
-ghost use Rattle.gadget_model.specs.Limits.{most_monomials};
+ghost use Rattle.gadget_limits.specs.Limits.{most_monomials};
 ghost use Rattle.anf.specs.Polynomials.{IsSetOf, set_of};
 ghost use Rattle.anf.specs.Monomials.{lists_of};
 ghost use Rattle.anf.specs.Keys.{key_of, HaveKey};
@@ -13,10 +13,8 @@ ghost use Rattle.anf.specs.declared.poly_error.PolyError.TheVariants.{TooWide};
 
 use crate::key::Key;
 use crate::{Monomial, Poly, PolyError};
+use gadget_limits::MOST_MONOMIALS;
 use std::alloc::{AllocError, AllocFailed, Global};
-
-// A polynomial has at most this many monomials.
-const MOST_MONOMIALS: usize = 256;
 
 // Whether the last of the keys is this one.
 fn ends_in(keys: &[Key], key: Key) -> bool

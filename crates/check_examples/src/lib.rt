@@ -13,6 +13,8 @@ mod least_sets;
 #[cfg(test)]
 mod limits;
 #[cfg(test)]
+mod polynomials;
+#[cfg(test)]
 mod products;
 #[cfg(test)]
 mod randoms;

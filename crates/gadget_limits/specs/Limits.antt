@@ -20,3 +20,7 @@ most_randoms = 128
 -- A gadget has at most this many variables, shares of inputs and randoms counted in.
 abbrev pub most_variables : ℕ
 most_variables = 511
+
+-- The polynomial of a variable has at most this many monomials.
+abbrev pub most_monomials : ℕ
+most_monomials = 256

@@ -15,3 +15,6 @@ pub const MOST_RANDOMS: usize = 128;
 
 /// A gadget has at most this many variables, shares of inputs and randoms counted in.
 pub const MOST_VARIABLES: usize = 511;
+
+/// The polynomial of a variable has at most this many monomials.
+pub const MOST_MONOMIALS: usize = 256;

@@ -2,7 +2,7 @@
 -- (Belaid et al., CRYPTO 2020), and no wire is of degree above two in the shares.
 use Rattle.std.specs.Prelude.{◌≡◌, ◌≢◌, ℕ, ◌<◌, List, length, Contains, Some, slice_get}
 use Rattle.gadget_model.specs.Circuit.{Circuit, nodes, share, random}
-use Rattle.gadget_model.specs.Limits.{most_monomials}
+use Rattle.gadget_limits.specs.Limits.{most_monomials}
 use Rattle.gadget_model.specs.Polynomials.{HasVariable, polynomial}
 
 -- a variable is an input share

@@ -1,6 +1,5 @@
 pub mod Bits
 pub mod Circuit
 pub mod Simulation
-pub mod Limits
 pub mod Polynomials
 pub mod Classes

@@ -1,5 +1,5 @@
 -- The sum of terms, one monomial more.
-use Rattle.gadget_model.specs.Limits.{most_randoms}
+use Rattle.gadget_limits.specs.Limits.{most_randoms}
 use Rattle.std.proofs.Common.{◌≡◌, ℕ, ◌+◌, ◌*◌, ◌%◌, ◌^◌, ◌<◌, ◌≤◌, Bool, List, [], ◌∷◌, ◌++◌, length, take, get_or, ap, sym, ◌∙◌, subst, arith, Contains}
 use Rattle.std.specs.Prelude.{bit_xor}
 use Rattle.std.specs.List.Sorted.{IsStrictlyIncreasing}

@@ -1,5 +1,5 @@
 -- The polynomials that are computed are those of the gadget's variables.
-use Rattle.gadget_model.specs.Limits.{most_monomials}
+use Rattle.gadget_limits.specs.Limits.{most_monomials}
 use Rattle.std.proofs.Common.{◌≡◌, ◌≢◌, ◌↔◌, ℕ, ◌^◌, ◌<◌, ◌≤◌, Bool, List, [], ◌∷◌, ◌++◌, length, get_or, ap, sym, ◌∙◌, subst, inl, inr, arith, Contains, Some}
 use Rattle.std.specs.Prelude.{slice_get}
 use Rattle.std.specs.List.{All, AllPairs}

@@ -4,7 +4,7 @@ use Rattle.std.specs.List.{range_with_len}
 use Rattle.std.specs.Int.{bit_at}
 use Rattle.gadget_model.specs.Bits.{add}
 use Rattle.gadget_model.specs.Circuit.{Circuit, Node, share, random, copy, sum_of, product_of, nodes, value}
-use Rattle.gadget_model.specs.Limits.{most_variables}
+use Rattle.gadget_limits.specs.Limits.{most_variables}
 use Rattle.gadget_model.specs.Simulation.{HasShare}
 use Rattle.gadget_model.specs.Polynomials.{set_product}
 use Rattle.gadget_tree.specs.Gadgets.{IsInputShare}

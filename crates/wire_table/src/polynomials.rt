@@ -3,7 +3,7 @@
 ghost use Rattle.std.specs.Prelude.{◌≡◌, ◌≢◌, ◌<◌, ◌≤◌, length, All, AllPairs, IfOk, IfErr, Err};
 ghost use Rattle.gadget_model.specs.Circuit.{NamesEarlier};
 ghost use Rattle.gadget_model.specs.Classes.{IsTooWide};
-ghost use Rattle.gadget_model.specs.Limits.{most_randoms};
+ghost use Rattle.gadget_limits.specs.Limits.{most_randoms};
 ghost use Rattle.gadget_model.specs.Polynomials.{polynomial_of};
 ghost use Rattle.anf.specs.Polynomials.{IsSetOf, HasFewVariables};
 ghost use Rattle.anf.specs.declared.poly_error.PolyError.TheVariants.{TooWide};

@@ -1,6 +1,6 @@
 use Rattle.std.proofs.Common.{◌≡◌, ℕ, ◌<◌, ◌≤◌, ◌++◌, List, map, length, ap, sym, ◌∙◌, subst}
 use Rattle.std.proofs.lemmas.Result.{IfOk-weaker, on_ok_weaker}
-use Rattle.gadget_model.specs.Limits.{most_monomials}
+use Rattle.gadget_limits.specs.Limits.{most_monomials}
 use Rattle.gadget_model.specs.Polynomials.{symmetric_difference, odd_ones}
 use Rattle.anf.specs.Polynomials.{IsSetOf, set_of}
 use Rattle.anf.specs.Monomials.{sets_of}

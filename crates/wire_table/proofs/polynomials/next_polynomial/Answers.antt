@@ -1,4 +1,4 @@
-use Rattle.gadget_model.specs.Limits.{most_randoms}
+use Rattle.gadget_limits.specs.Limits.{most_randoms}
 use Rattle.std.proofs.Common.{length, get_or, refl, Err, ap, ◌∙◌}
 use Rattle.gadget_tree.specs.Seen.{node_of}
 use Rattle.wire_table.proofs.Faults.{IsLineOf-at}

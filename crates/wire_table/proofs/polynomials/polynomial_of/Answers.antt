@@ -1,4 +1,4 @@
-use Rattle.gadget_model.specs.Limits.{most_randoms}
+use Rattle.gadget_limits.specs.Limits.{most_randoms}
 use Rattle.std.proofs.Common.{ℕ, List, length, sym, subst, arith}
 use Rattle.gadget_model.specs.Circuit.{NamesEarlier}
 use Rattle.gadget_tree.specs.declared.var.VarKind.{VarKind}

@@ -3,7 +3,7 @@
 ghost use Rattle.std.specs.Prelude.{IsTrue};
 ghost use Rattle.anf.specs.Polynomials.{HasFewVariables};
 
-use super::*;
+use anf::{Poly, PolyError, occurs, product, sum};
 use std::alloc::Global;
 use std::ops::Range;
 use std::test::Fail;
