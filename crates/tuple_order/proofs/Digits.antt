@@ -1,7 +1,7 @@
 -- Digits one by one: the code of a tuple with one item more, and one item more that is read off from a code.
-use Rattle.std.proofs.Common.{◌≡◌, ℕ, zero, suc, ◌+◌, ◌-◌, ◌*◌, ◌/◌, ◌%◌, ◌^◌, ◌<◌, ◌≤◌, List, [], ◌∷◌, ◌++◌, length, take, drop, get_or, refl, ap, sym, ◌∙◌, arith, subst, pow-suc, pow_mono, length-append}
+use Rattle.std.proofs.Common.{◌≡◌, ℕ, zero, suc, ◌+◌, ◌-◌, ◌*◌, ◌/◌, ◌%◌, ◌^◌, ◌<◌, ◌≤◌, List, [], ◌∷◌, ◌++◌, length, take, drop, get_or, refl, ap, sym, ◌∙◌, arith, subst, pow-suc, length-append}
 use Rattle.std.proofs.lemmas.List.{drop_more, take_at}
-use Rattle.std.proofs.lemmas.Nat.{pow-add, shl_below, shl_whole}
+use Rattle.std.proofs.lemmas.Nat.{pow-add}
 use Rattle.tuple_model.specs.Limits.{most_items, most_size}
 use Rattle.tuple_model.specs.Tuples.{IsTuple}
 use Rattle.tuple_order.specs.Codes.{digits, code_of, items_of_digits, HasRoom, code_with}
@@ -53,17 +53,6 @@ code_of-more s item g h =
 
 pub HasRoom-code_of : (s : List ℕ) (item : ℕ) → IsTuple most_items most_size s → IsTuple most_items most_size (s ++ item ∷ []) → HasRoom (code_of s)
 HasRoom-code_of s item g h = (code_of-small s g, omega (arith, code_of-size s g, IsTuple-longer_room s item h))
-
--- the digit of one item more, from any bit on where a digit may stand
-pub digit-whole : (item bit : ℕ) → item < 511 → bit ≤ 45 → ((item + 1) * 2 ^ bit) % 2 ^ 64 ≡ (item + 1) * 2 ^ bit
-digit-whole item bit l m = shl_whole (item + 1) 9 bit 64 (omega arith) (omega arith)
-
-pub digit-small : (item bit : ℕ) → item < 511 → bit ≤ 45 → (item + 1) * 2 ^ bit < 2 ^ 54
-digit-small item bit l m =
-    let b = shl_below (item + 1) 9 bit (omega arith) in
-    let places : 9 + bit ≤ 54 = omega arith in
-    let p : 2 ^ (9 + bit) ≤ 2 ^ 54 = pow_mono places in
-    omega arith
 
 pub length-items_of_digits : (n worth code : ℕ) → length (items_of_digits n worth code) ≡ n
 length-items_of_digits zero worth code = refl

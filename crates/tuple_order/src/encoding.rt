@@ -1,6 +1,6 @@
 //! The codes of tuples, and of all their subsets.
 
-ghost use Rattle.std.specs.Prelude.{◌≡◌, ◌↔◌, ℕ, ◌+◌, ◌-◌, ◌*◌, ◌≤◌, ◌<◌, ◌^◌, IfSome, IfNone, List, length, slice_index};
+ghost use Rattle.std.specs.Prelude.{◌≡◌, ◌↔◌, ℕ, ◌+◌, ◌*◌, ◌≤◌, ◌<◌, ◌^◌, IfSome, IfNone, List, length, slice_index};
 ghost use Rattle.tuple_model.specs.Limits.{most_items, most_size};
 ghost use Rattle.tuple_model.specs.Tuples.{IsTuple, IsBefore, subset as subset_of};
 ghost use Rattle.tuple_order.specs.Codes.{code_of, tuple_of_code, size_of_code, items_of_digits, code_with, HasRoom};
@@ -20,6 +20,9 @@ const DIGIT_BITS: u32 = 9;
 
 // One more than the greatest digit.
 const BASE: u64 = 1 << DIGIT_BITS;
+
+// What a digit is worth at each place. A look-up here takes less time than a shift by a size that was just computed.
+const WORTHS: [u64; 6] = [1 << 45, 1 << 36, 1 << 27, 1 << 18, 1 << 9, 1];
 
 impl Tuple {
     /// A word that orders as the tuple does.
@@ -75,7 +78,8 @@ fn read_digits(code: u64, items: &mut [u16])
     ensures { items.new ≡ items_of_digits (length items.old) (2 ^ 45) code }
 {
     for place in 0..items.len() {
-        items[place] = ((code >> lowest_bit(place)) % BASE).saturating_sub(1) as u16;
+        let bit = FIRST_DIGIT - DIGIT_BITS * place as u32;
+        items[place] = ((code >> bit) % BASE).saturating_sub(1) as u16;
     }
 }
 
@@ -84,14 +88,6 @@ fn size_in(code: u64) -> usize
     ensures { result ≡ size_of_code code }
 {
     (code / ONE_MORE % 256) as usize
-}
-
-// Where the digit at a place has its lowest bit.
-fn lowest_bit(place: usize) -> u32
-    requires { place < most_size }
-    ensures { result ≡ 45 - 9 * place }
-{
-    FIRST_DIGIT - DIGIT_BITS * place as u32
 }
 
 // After the codes of the first subsets come those of the same subsets with one item more.
@@ -115,7 +111,7 @@ fn with_item(code: u64, item: u16) -> u64
     requires short { HasRoom code }
     ensures { result ≡ code_with code item }
 {
-    code + ONE_MORE + ((u64::from(item) + 1) << lowest_bit(size_in(code)))
+    code + ONE_MORE + (u64::from(item) + 1) * WORTHS[size_in(code)]
 }
 
 /// Each tuple is the one with its code, and codes are ordered as the tuples are. No code is 0 or has bit 63.

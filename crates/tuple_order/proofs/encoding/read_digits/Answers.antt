@@ -1,4 +1,4 @@
-use Rattle.std.proofs.Common.{ℕ, ◌-◌, ◌/◌, ◌%◌, ◌^◌, List, [], ◌∷◌, ◌++◌, ap, sym, ◌∙◌, arith}
+use Rattle.std.proofs.Common.{ℕ, ◌^◌, List, [], ◌∷◌, ◌++◌, ap, sym, ◌∙◌, arith}
 use Rattle.std.proofs.lemmas.List.{take_more_set}
 use Rattle.tuple_order.specs.Codes.{items_of_digits}
 use Rattle.tuple_order.proofs.Digits.{read-more}
@@ -11,5 +11,4 @@ loop-place-preserved c =
     take_more_set c.loop-place.items place item (omega arith)
     ∙ ap (λ (items : List ℕ). items ++ item ∷ []) c.loop-place.invariant
     ∙ ap (λ (n : ℕ). items_of_digits place (2 ^ 45) c.args.code ++ n ∷ []) c.saturating_sub.ensures
-    ∙ ap (λ (bit : ℕ). items_of_digits place (2 ^ 45) c.args.code ++ (c.args.code / 2 ^ bit % 512 - 1) ∷ []) c.lowest_bit.ensures
     ∙ sym (read-more c.args.code place (omega arith))
