@@ -1,9 +1,10 @@
 -- Lists of codes, and the tuples that they are the codes of: both are in order, and have the same members.
-use Rattle.std.proofs.Common.{◌≡◌, ℕ, ◌<◌, List, [], ◌∷◌, map, get_or, refl, ap, sym, ◌∙◌, inl, inr, arith, subst, Contains}
+use Rattle.std.proofs.Common.{◌≡◌, ℕ, ◌<◌, List, [], ◌∷◌, map, length, get_or, refl, ap, sym, ◌∙◌, inl, inr, arith, subst, Contains}
 use Rattle.std.specs.List.{All, AllPairs}
 use Rattle.std.specs.List.Sorted.{IsNonDecreasing}
 use Rattle.std.proofs.Math.ListN.{length-map, get_or-map}
 use Rattle.std.proofs.lemmas.Bool.{cases_lt}
+use Rattle.std.proofs.lemmas.List.{get_or_default}
 use Rattle.std.proofs.lemmas.List.Elements.{All-contains, All-head, All-tail, All-nil}
 use Rattle.list_laws.proofs.Members.{Contains-map, Contains-from_map, AllPairs-map, AllPairs-weaker}
 use Rattle.tuple_model.specs.Limits.{most_items, most_size}
@@ -73,3 +74,9 @@ IsNonDecreasing-from_codes codes h i j d l m = elim (cases_lt i j) [
   | inl less ↦ let r = rising-from_codes codes h i j d less m in omega arith
   | inr most ↦ let e : i ≡ j = omega arith in let f = ap (λ (k : ℕ). get_or codes k d) e in omega arith
 ]
+
+-- the code at a place is that of the tuple at the place
+pub get_or-codes : (list : List (List ℕ)) (codes : List ℕ) (place : ℕ) → codes ≡ map code_of list → place < length list → get_or codes place 0 ≡ code_of (get_or list place [])
+get_or-codes list codes place e l =
+    let m : place < length (map code_of list) = omega (arith, length-map list code_of) in
+    ap (λ (ns : List ℕ). get_or ns place 0) e ∙ get_or_default (map code_of list) place 0 (code_of []) m ∙ get_or-map code_of list place []

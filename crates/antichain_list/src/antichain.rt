@@ -1,7 +1,7 @@
 //! A list of tuples in order, none a subset of another.
 
-ghost use Rattle.std.specs.Prelude.{◌≡◌, List, [], ℕ, All, map, OnErr, OnOk, IfOk, IfSome, IfNone};
-ghost use Rattle.tuple_model.specs.Antichains.{Covers, CoversSame, IsAntichain};
+ghost use Rattle.std.specs.Prelude.{◌≡◌, ◌↔◌, ◌<◌, List, [], ℕ, All, IsTrue, Some, map, length, slice_get, OnErr, OnOk, IfOk, IfSome, IfNone};
+ghost use Rattle.tuple_model.specs.Antichains.{Adds, Covers, CoversSame, IsAntichain};
 ghost use Rattle.tuple_order.specs.Codes.{code_of, tuple_of_code};
 ghost use Rattle.antichain_list.specs.Held.{IsCode};
 ghost use Rattle.antichain_list.specs.Lists.{IsFirstSubset, MatchAdded, Joins, CoversBoth};
@@ -57,10 +57,33 @@ impl Antichain {
         &self.codes
     }
 
+    /// How many tuples there are.
+    pub fn len(&self) -> usize
+        ensures { result ≡ length self.now }
+    {
+        self.codes.len()
+    }
+
+    /// Whether there are none.
+    pub fn is_empty(&self) -> bool
+        ensures { IsTrue result ↔ (self.now ≡ []) }
+    {
+        self.codes.is_empty()
+    }
+
+    /// The tuple at a place.
+    pub fn tuple(&self, place: usize) -> Tuple
+        requires { place < length self.now }
+        ensures { slice_get self.now place ≡ Some result }
+    {
+        tuple_of(self.tuples()[place])
+    }
+
     /// The first tuple of the list that is a subset of `t`.
     pub fn covers(&self, t: &Tuple) -> Option<Tuple>
         ensures first { IfSome result (λ s. IsFirstSubset self.now t.now s) }
         ensures none { IfNone result (Covers self.now t.now → ⊥) }
+        ensures antichain { IsAntichain self.now }
     {
         if self.codes.is_empty() {
             return None;
@@ -79,12 +102,23 @@ impl Antichain {
         if let Some(s) = self.covers(&t) {
             return Ok(Added::Covered(s));
         }
+        self.insert(t)?;
+        Ok(Added::Kept)
+    }
+
+    /// Adds a tuple that the list doesn't cover, and takes out its supersets.
+    pub fn insert(&mut self, t: Tuple) -> Result<(), OutOfMemory>
+        requires { Covers self.old t → ⊥ }
+        ensures refused { OnErr result (self.new ≡ self.old) }
+        ensures added { OnOk result (Adds self.old t self.new) }
+        ensures antichain { IsAntichain self.new }
+    {
         let code = t.code();
         let place = place_of(&self.codes, code);
         // A refusal comes before anything is taken out.
         self.codes.insert(place, code)?;
         drop_supersets(&mut self.codes, place + 1, &t);
-        Ok(Added::Kept)
+        Ok(())
     }
 
     /// Leaves the minimal ones of the tuples of both lists.
