@@ -3,9 +3,5 @@
 
 mod antichain;
 mod codes;
-mod readers;
 
 pub use antichain::{Added, Antichain};
-
-#[cfg(test)]
-mod tests;

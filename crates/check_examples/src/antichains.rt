@@ -1,6 +1,6 @@
 //! Small lists, worked out by hand.
 
-use crate::{Added, Antichain};
+use antichain_list::{Added, Antichain};
 use std::process::Abort;
 use std::test::Fail;
 use tuple_order::Tuple;
