@@ -55,9 +55,6 @@ Known-none t = record {
     zeros (suc n) (suc k) = zeros n k
 
 module _ {t codes : List ℕ} {i known : ℕ} (h : Known t codes i known) (tuple : IsTuple most_items most_size t) (l : i < length t) where
-  item : ℕ
-  item = get_or t i 0
-
   longer : take (i + 1) t ≡ take i t ++ get_or t i 0 ∷ []
   longer = take_more t i 0 l
 
@@ -78,14 +75,6 @@ module _ {t codes : List ℕ} {i known : ℕ} (h : Known t codes i known) (tuple
   IsTuple-with_last : (k : ℕ) → k < known → IsTuple most_items most_size (subset k (take i t) ++ get_or t i 0 ∷ [])
   IsTuple-with_last k m =
       subst (IsTuple most_items most_size) (with_last k m) (IsTuple-subset most_items most_size (k + known) (take (i + 1) t) (IsTuple-first (i + 1)))
-
-  pub Known-room : 2 * known ≤ 64
-  Known-room =
-      let n = tuple.short in
-      let d : i ≤ 5 = omega arith in
-      let p : 2 ^ i ≤ 2 ^ 5 = pow_mono d in
-      let c = h.count in
-      omega arith
 
   pub Known-short : (k : ℕ) → k < known → HasRoom (get_or codes k 0)
   Known-short k m =
@@ -117,11 +106,3 @@ module _ {t codes : List ℕ} {i known : ℕ} (h : Known t codes i known) (tuple
     ];
     rest = λ k m. after k (omega arith) ∙ h.rest k (omega arith);
   }
-
-pub Known-all : (t codes : List ℕ) (i known : ℕ) → length t ≡ i → Known t codes i known →
-    ((k : ℕ) → k < 2 ^ length t → get_or codes k 0 ≡ code_of (subset k t)) × ((k : ℕ) → 2 ^ length t ≤ k → get_or codes k 0 ≡ 0)
-Known-all t codes i known e h =
-    let c : known ≡ 2 ^ length t = h.count ∙ ap (λ (n : ℕ). 2 ^ n) (sym e) in (
-      λ k l. h.done k (omega arith) ∙ ap (λ (s : List ℕ). code_of (subset k s)) (take_all i t (omega arith)),
-      λ k l. h.rest k (omega arith),
-    )

@@ -48,9 +48,6 @@ pub record Left (a b : List ℕ) (found i : ℕ) : Type 0 where
   pub few : found ≤ length a
   pub same : IsSubset a b ↔ IsSubset (drop found a) (drop i b)
 
-pub Left-none : (a b : List ℕ) → Left a b 0 0
-Left-none a b = record { few = omega arith; same = (λ h. h, λ h. h) }
-
 module _ (high : ℕ) (a b : List ℕ) (found i : ℕ) (g : IsRising 0 high a) (h : IsRising 0 high b) (left : Left a b found i) (l : i < length b) where
   b_rest : drop i b ≡ get_or b i 0 ∷ drop (i + 1) b
   b_rest = drop_more b i 0 l

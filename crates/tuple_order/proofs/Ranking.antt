@@ -30,9 +30,6 @@ without_item size room low place t e =
     ∙ slice_get-append_right (map (λ s. low ∷ s) (rising size room (suc low))) (rising (suc size) room (suc low)) place
     ∙ e
 
-room-next : (items low : ℕ) → low < items → items - low ≡ suc (items - 1 - low)
-room-next items low l = omega arith
-
 room-same : (items low : ℕ) → items - 1 - low ≡ items - (low + 1)
 room-same items low = omega arith
 
@@ -42,16 +39,6 @@ pub record Leads (items size place : ℕ) (t : List ℕ) (lacking rest item : �
   pub few : lacking ≤ size
   pub within : rest < length (rising lacking (items - item) item)
   pub carried : (u : List ℕ) → slice_get (rising lacking (items - item) item) rest ≡ Some u → slice_get (rising size items 0) place ≡ Some (t ++ u)
-
-pub Leads-none : (items size place : ℕ) → place < length (rising size items 0) → Leads items size place [] size place 0
-Leads-none items size place l =
-    let z : items ≡ items - 0 = omega arith in
-    let P : ℕ → Type 0 = λ room. place < length (rising size room 0) in
-    record {
-      few = omega arith;
-      within = subst P z l;
-      carried = λ u e. ap (λ (room : ℕ). slice_get (rising size room 0) place) z ∙ e;
-    }
 
 module _ {items size place : ℕ} {t : List ℕ} {more rest item : ℕ} (h : Leads items size place t (suc more) rest item) (l : item < items) where
   pub Leads-with : rest < length (rising more (items - 1 - item) 0) → Leads items size place (t ++ item ∷ []) more rest (item + 1)
@@ -149,20 +136,6 @@ pub record Comes (items : ℕ) (t : List ℕ) (passed before item : ℕ) : Type 
   pub rises : IsRising item items (drop passed t)
   pub carried : (place : ℕ) → slice_get (rising (length t - passed) (items - item) item) place ≡ Some (drop passed t) →
       slice_get (rising (length t) items 0) (before + place) ≡ Some t
-
-pub Comes-none : (items : ℕ) (t : List ℕ) → IsRising 0 items t → Comes items t 0 0 0
-Comes-none items t h = record {
-  passed_few = omega arith;
-  rises = h;
-  carried = λ place e.
-      let z : length t ≡ length t - 0 = omega arith in
-      let y : items ≡ items - 0 = omega arith in
-      let x : 0 + place ≡ place = omega arith in
-      ap (λ (k : ℕ). slice_get (rising (length t) items 0) k) x
-      ∙ ap (λ (room : ℕ). slice_get (rising (length t) room 0) place) y
-      ∙ ap (λ (size : ℕ). slice_get (rising size (items - 0) 0) place) z
-      ∙ e;
-}
 
 module _ {items : ℕ} {t : List ℕ} {passed before item : ℕ} (h : Comes items t passed before item) (l : item < items) (m : passed < length t) where
   rest_is : drop passed t ≡ get_or t passed 0 ∷ drop (passed + 1) t
@@ -269,10 +242,6 @@ rank-from_smaller items n size rank t l e =
     let z : size - n + n ≡ size = omega arith in
     let P : ℕ → Type 0 = λ m. slice_get (tuples items m) rank ≡ Some t in
     subst P z (rank-larger_size items n (size - n) rank t e)
-
-pub length-tuples : (items n : ℕ) → length (tuples items n) ≡ fewer items n + length (rising n items 0)
-length-tuples items zero = refl
-length-tuples items (suc n) = length-append (tuples items n) (rising (suc n) items 0)
 
 -- fewer tuples than a rank, where each smaller size has at most so many
 pub fewer-least : (items n rank : ℕ) → ((smaller : ℕ) → smaller < n → length (tuples items smaller) ≤ rank) → fewer items n ≤ rank
