@@ -1,5 +1,6 @@
--- The keys of monomials: whole numbers by which monomials are sorted. A key has a digit of 32 bits for each of four variables, the
--- first one highest. The digit of a variable is one above its number; where there is no variable it is 0.
+-- The keys of monomials: whole numbers by which monomials are sorted. A key has a digit of 32 bits for each of four
+-- variables, the first one highest. The digit of a variable is one above its number; where there is no variable it is
+-- 0.
 use Rattle.std.specs.Prelude.{◌≡◌, ◌≤◌, ℕ, ◌+◌, ◌*◌, ◌/◌, ◌%◌, ◌^◌, ◌<◌, zero, suc, List, [], ◌∷◌, ◌++◌, length, slice_get, All}
 use Rattle.std.specs.Option.{option_map_or}
 use Rattle.std.specs.List.Sorted.{IsStrictlyIncreasing}
@@ -20,7 +21,9 @@ variable_of (suc v) = v ∷ []
 
 -- the variables with a key
 abbrev pub variables_of : ℕ → List ℕ
-variables_of key = variable_of (key / 2 ^ 96) ++ variable_of (key / 2 ^ 64 % 2 ^ 32) ++ variable_of (key / 2 ^ 32 % 2 ^ 32) ++ variable_of (key % 2 ^ 32)
+variables_of key =
+    variable_of (key / 2 ^ 96) ++ variable_of (key / 2 ^ 64 % 2 ^ 32) ++ variable_of (key / 2 ^ 32 % 2 ^ 32)
+    ++ variable_of (key % 2 ^ 32)
 
 -- a number is the key of its variables, each of 16 bits
 pub record IsKey (number : ℕ) : Type 0 where

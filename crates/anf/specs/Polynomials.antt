@@ -1,5 +1,5 @@
--- What the calls on polynomials answer, as sets of monomials. A monomial is the set of its variables, as a number: variable v is
--- in it where its bit v is 1.
+-- What the calls on polynomials answer, as sets of monomials. A monomial is the set of its variables, as a number:
+-- variable v is in it where its bit v is 1.
 use Rattle.std.specs.Prelude.{◌≢◌, ◌↔◌, ℕ, ◌^◌, ◌<◌, List, [], ◌∷◌, AllPairs, Contains, All, bit_or}
 use Rattle.gadget_model.specs.Polynomials.{HasVariable}
 
@@ -10,7 +10,8 @@ pub record IsSetOf (monomials p : List ℕ) : Type 0 where
 
 -- a monomial has three variables or more
 abbrev pub HasThreeVariables : ℕ → Type 0
-HasThreeVariables m = (u : ℕ) × (v : ℕ) × (w : ℕ) × (u < v) × (v < w) × HasVariable m u × HasVariable m v × HasVariable m w
+HasThreeVariables m =
+    (u : ℕ) × (v : ℕ) × (w : ℕ) × (u < v) × (v < w) × HasVariable m u × HasVariable m v × HasVariable m w
 
 -- each monomial has at most two variables
 abbrev pub HasFewVariables : List ℕ → Type 0

@@ -18,7 +18,8 @@ pub record AreCodes (codes : List ℕ) : Type 0 where
 -- the least number that stands in both lists, where there is one
 abbrev pub IsLeastOfBoth : List ℕ → List ℕ → Option ℕ → Type 0
 IsLeastOfBoth xs ys None = (n : ℕ) → Contains xs n → Contains ys n → ⊥
-IsLeastOfBoth xs ys (Some least) = Contains xs least × Contains ys least × ((n : ℕ) → Contains xs n → Contains ys n → least ≤ n)
+IsLeastOfBoth xs ys (Some least) =
+    Contains xs least × Contains ys least × ((n : ℕ) → Contains xs n → Contains ys n → least ≤ n)
 
 -- the number is lower than the other, where there is another
 abbrev pub IsLower : ℕ → Option ℕ → Type 0

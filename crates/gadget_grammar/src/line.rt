@@ -43,7 +43,8 @@ fn right_side(
 ) -> Result<Vec<Step>, FileError>
     requires two { 2 ≤ length tokens.now }
     requires spans { All (LiesWithin (length bytes.now)) tokens.now }
-    ensures steps { GivesSteps line bytes.now result (steps_from initial_state (symbols_in bytes.now (drop 2 tokens.now))) }
+    ensures steps { GivesSteps line bytes.now result
+        (steps_from initial_state (symbols_in bytes.now (drop 2 tokens.now))) }
     ensures names { IfOk result (λ v. name_tokens v.items ≡ word_tokens (drop 2 tokens.now)) }
 {
     expression(alloc, line, bytes, &tokens[2..])

@@ -41,7 +41,8 @@ pub(crate) fn listed<'a>(
     words: &'a [Token],
 ) -> Result<Stems<'a>, FileError>
     requires { All (LiesWithin (length bytes.now)) words.now }
-    ensures says { Gives (listed_in bytes.now) result (Is (listed line is_twice most things (texts_in bytes.now words.now))) }
+    ensures says { Gives (listed_in bytes.now) result
+        (Is (listed line is_twice most things (texts_in bytes.now words.now))) }
     ensures words { IfOk result (λ stems. stems.words.now ≡ words.now) }
 {
     if is_twice {

@@ -18,8 +18,9 @@ pub record Variable : Type 0 where
   pub node : Node
   pub line : ℕ
 
--- A gadget: into how many shares a secret is split, the names of its inputs, the number of its randoms, the names of its
--- outputs, the variable of each output share (by output, then by index), and its variables in the order of evaluation.
+-- A gadget: into how many shares a secret is split, the names of its inputs, the number of its randoms, the names of
+-- its outputs, the variable of each output share (by output, then by index), and its variables in the order of
+-- evaluation.
 pub record Circuit : Type 0 where
   pub shares : ℕ
   pub inputs : List (List ℕ)
@@ -39,15 +40,17 @@ value_of x r earlier (copy a) = earlier a
 value_of x r earlier (sum_of a b) = add (earlier a) (earlier b)
 value_of x r earlier (product_of a b) = earlier a && earlier b
 
--- What is computed of the wires one after the other: what there is already, and behind it what each further node gives, from
--- what the earlier wires have and from its own number. A wire that isn't there has `none`.
+-- What is computed of the wires one after the other: what there is already, and behind it what each further node gives,
+-- from what the earlier wires have and from its own number. A wire that isn't there has `none`.
 abbrev pub wires_from : {A : Type 0} → A → ((ℕ → A) → ℕ → Node → A) → List A → List Node → List A
 wires_from none give done [] = done
-wires_from none give done (v ∷ vs) = wires_from none give (done ++ give (λ k. slice_index_or done k none) (length done) v ∷ []) vs
+wires_from none give done (v ∷ vs) =
+    wires_from none give (done ++ give (λ k. slice_index_or done k none) (length done) v ∷ []) vs
 
 -- the value of a wire
 unfoldable pub value : Circuit → (ℕ → Bool) → List Bool → ℕ → Bool
-value g x r v = slice_index_or (wires_from false (λ earlier number node. value_of x r earlier node) [] (nodes g)) v false
+value g x r v =
+    slice_index_or (wires_from false (λ earlier number node. value_of x r earlier node) [] (nodes g)) v false
 
 -- what a node names is there: operands are among the n earlier variables, a random is one of the gadget's
 abbrev pub NamesEarlier : ℕ → ℕ → Node → Type 0

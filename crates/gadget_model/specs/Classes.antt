@@ -1,5 +1,5 @@
--- The class of gadgets for which elimination over the randoms decides exactly what is simulatable: the randoms are only added
--- (Belaid et al., CRYPTO 2020), and no wire is of degree above two in the shares.
+-- The class of gadgets for which elimination over the randoms decides exactly what is simulatable: the randoms are only
+-- added (Belaid et al., CRYPTO 2020), and no wire is of degree above two in the shares.
 use Rattle.std.specs.Prelude.{◌≡◌, ◌≢◌, ℕ, ◌<◌, List, length, Contains, Some, slice_get}
 use Rattle.gadget_model.specs.Circuit.{Circuit, nodes, share, random}
 use Rattle.gadget_limits.specs.Limits.{most_monomials}
@@ -19,7 +19,9 @@ MultipliesRandom g m = (v : ℕ) × (w : ℕ) × HasVariable m v × IsRandom g v
 
 -- a monomial has over two input shares
 abbrev pub HasThreeShares : Circuit → ℕ → Type 0
-HasThreeShares g m = (u : ℕ) × (v : ℕ) × (w : ℕ) × (u < v) × (v < w) × HasVariable m u × IsShare g u × HasVariable m v × IsShare g v × HasVariable m w × IsShare g w
+HasThreeShares g m =
+    (u : ℕ) × (v : ℕ) × (w : ℕ) × (u < v) × (v < w) × HasVariable m u × IsShare g u × HasVariable m v × IsShare g v
+    × HasVariable m w × IsShare g w
 
 -- why a variable is outside the class
 pub data Fault : Type 0 where
@@ -39,15 +41,19 @@ HasRandomProduct g p = (m : ℕ) × Contains p m × MultipliesRandom g m
 abbrev pub HasDegreeAboveTwo : Circuit → List ℕ → Type 0
 HasDegreeAboveTwo g p = (m : ℕ) × Contains p m × HasThreeShares g m
 
--- A variable's polynomial has this fault. Of several, the first counts: its width, then a random in a product, then the degree.
+-- A variable's polynomial has this fault. Of several, the first counts: its width, then a random in a product, then the
+-- degree.
 abbrev pub HasFault : Circuit → ℕ → Fault → Type 0
 HasFault g v too_wide = IsTooWide (polynomial g v)
 HasFault g v random_product = (IsTooWide (polynomial g v) → ⊥) × HasRandomProduct g (polynomial g v)
-HasFault g v degree = (IsTooWide (polynomial g v) → ⊥) × (HasRandomProduct g (polynomial g v) → ⊥) × HasDegreeAboveTwo g (polynomial g v)
+HasFault g v degree =
+    (IsTooWide (polynomial g v) → ⊥) × (HasRandomProduct g (polynomial g v) → ⊥) × HasDegreeAboveTwo g (polynomial g v)
 
 -- a variable has no fault
 abbrev pub IsFit : Circuit → ℕ → Type 0
-IsFit g v = (IsTooWide (polynomial g v) → ⊥) × (HasRandomProduct g (polynomial g v) → ⊥) × (HasDegreeAboveTwo g (polynomial g v) → ⊥)
+IsFit g v =
+    (IsTooWide (polynomial g v) → ⊥) × (HasRandomProduct g (polynomial g v) → ⊥)
+    × (HasDegreeAboveTwo g (polynomial g v) → ⊥)
 
 -- the gadget is in the class: no variable has a fault
 abbrev pub IsInClass : Circuit → Type 0

@@ -1,8 +1,8 @@
--- The polynomial of a wire over GF(2) in the input shares and randoms, its algebraic normal form: a sum of monomials, each of
--- which is a product of variables.
+-- The polynomial of a wire over GF(2) in the input shares and randoms, its algebraic normal form: a sum of monomials,
+-- each of which is a product of variables.
 --
--- A monomial is the set of its variables, as a number: variable v is in it where its bit v is 1. A polynomial is the set of its
--- monomials, as a list in which each of them stands once; their order means nothing.
+-- A monomial is the set of its variables, as a number: variable v is in it where its bit v is 1. A polynomial is the
+-- set of its monomials, as a list in which each of them stands once; their order means nothing.
 use Rattle.std.specs.Prelude.{◌≡◌, ℕ, zero, suc, ◌^◌, ◌==◌, Bool, true, false, not, ◌&&◌, ◌||◌, List, [], ◌∷◌, ◌++◌, map, flat_map, bit_or, slice_index_or}
 use Rattle.std.specs.List.{filter, list_any}
 use Rattle.std.specs.Int.{bit_at}
@@ -30,8 +30,9 @@ odd_ones (m ∷ ms) = symmetric_difference (m ∷ []) (odd_ones ms)
 abbrev pub unions : List ℕ → List ℕ → List ℕ
 unions p q = flat_map (λ m. map (bit_or m) q) p
 
--- A share and a random have the one monomial of themselves, a copy has the polynomial of its operand. A sum has the monomials that
--- stand in exactly one of its operands' polynomials, a product the unions that arise an odd number of times.
+-- A share and a random have the one monomial of themselves, a copy has the polynomial of its operand. A sum has the
+-- monomials that stand in exactly one of its operands' polynomials, a product the unions that arise an odd number of
+-- times.
 abbrev pub polynomial_of : (ℕ → List ℕ) → ℕ → Node → List ℕ
 polynomial_of earlier number (share k) = 2 ^ number ∷ []
 polynomial_of earlier number (random k) = 2 ^ number ∷ []

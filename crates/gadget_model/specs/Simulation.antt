@@ -9,7 +9,8 @@ use Rattle.gadget_model.specs.Circuit.{Circuit, nodes, share, value}
 abbrev pub observation : Circuit → List ℕ → (ℕ → Bool) → List Bool → List Bool
 observation g probes x r = map (value g x r) probes
 
--- The distribution of the observation for independent uniform randoms: the observation for each assignment, with repeats.
+-- The distribution of the observation for independent uniform randoms: the observation for each assignment, with
+-- repeats.
 abbrev pub distribution : Circuit → List ℕ → (ℕ → Bool) → List (List Bool)
 distribution g probes x = map (observation g probes x) (assignments g.randoms)
 
@@ -32,7 +33,8 @@ AgreeOn set x x' = (k : ℕ) → HasShare set k → x k ≡ x' k
 -- The probes are (perfectly) simulatable from a set of input shares: inputs that agree on the set
 -- give one distribution, so whoever knows these shares alone can draw the observation.
 unfoldable pub IsSimulatable : Circuit → List ℕ → ℕ → Type 0
-IsSimulatable g probes set = (x x' : ℕ → Bool) → AgreeOn set x x' → SameDistribution (distribution g probes x) (distribution g probes x')
+IsSimulatable g probes set =
+    (x x' : ℕ → Bool) → AgreeOn set x x' → SameDistribution (distribution g probes x) (distribution g probes x')
 
 -- each input share that is a variable of the gadget is in the set
 abbrev pub HasAllShares : Circuit → ℕ → Type 0

@@ -57,8 +57,8 @@ fn has_inner_name(vars: &[Var], name: &[u8], count: usize) -> bool
     false
 }
 
-/// Whether a name stands for something already that a line makes which assigns to this name and makes so many variables.
-/// No name is made to find out: time is linear in the length of the name, for each variable there is.
+/// Whether a name stands for something already that a line makes which assigns to this name and makes so many
+/// variables. No name is made to find out: time is linear in the length of the name, for each variable there is.
 pub(crate) fn is_some_taken(variables: &Variables, name: &[u8], count: usize) -> bool
     ensures { result ≡ list_any (is_among (names_of variables.now)) (names_made name.now count) }
 {

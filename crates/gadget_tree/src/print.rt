@@ -13,8 +13,8 @@ use crate::var::{Var, VarKind};
 use mask_bytes::OutOfMemory;
 use std::alloc::Global;
 
-/// The canonical text of a gadget: its headers, and then each operation on a line of its own. It reads again as the same
-/// gadget, apart from the lines of its variables.
+/// The canonical text of a gadget: its headers, and then each operation on a line of its own. It reads again as the
+/// same gadget, apart from the lines of its variables.
 pub fn print_gadget(alloc: Global, gadget: &Gadget) -> Result<Vec<u8>, OutOfMemory>
     ensures text { IfOk result (λ text. text.items ≡ canonical_text gadget.now) }
     ensures reads_again { IfOk result (λ text.

@@ -53,8 +53,8 @@ impl Variables {
         self.vars.len()
     }
 
-    /// The number of the variable with a name. Time is logarithmic in how many there are, times the bytes at which names
-    /// end alike.
+    /// The number of the variable with a name. Time is logarithmic in how many there are, times the bytes at which
+    /// names end alike.
     pub(crate) fn number(&self, name: &[u8]) -> Option<u16>
         ensures among { is_some result ≡ is_among (names_of self.now) name.now }
         ensures place { IfSome result (λ k. k ≡ place_of (names_of self.now) name.now) }

@@ -24,4 +24,5 @@ IsLonger told max = IfSome told (λ bytes. max < length bytes)
 
 -- a front of the bytes, and not all of them, was put behind what was written
 abbrev pub AppendsProperPrefix : Option (List ℕ) → Option (List ℕ) → List ℕ → Type 0
-AppendsProperPrefix before after bytes = (count : ℕ) × (count < length bytes) × (after ≡ append_known before (take count bytes))
+AppendsProperPrefix before after bytes =
+    (count : ℕ) × (count < length bytes) × (after ≡ append_known before (take count bytes))

@@ -9,10 +9,12 @@ pub record IsMinimal (Fails : List ℕ → Type 0) (t : List ℕ) : Type 0 where
   pub fails : Fails t
   pub minimal : (k : ℕ) → suc k < 2 ^ length t → Fails (subset k t) → ⊥
 
--- The second list has those elements of the first that the fact holds of, in their order: each is next in it, or is skipped.
+-- The second list has those elements of the first that the fact holds of, in their order: each is next in it, or is
+-- skipped.
 abbrev pub Picks : {X : Type 0} → (X → Type 0) → List X → List X → Type 0
 Picks P [] picked = picked ≡ []
-Picks {X} P (x ∷ xs) picked = (P x × (rest : List X) × (picked ≡ x ∷ rest) × Picks P xs rest) ⊎ ((P x → ⊥) × Picks P xs picked)
+Picks {X} P (x ∷ xs) picked =
+    (P x × (rest : List X) × (picked ≡ x ∷ rest) × Picks P xs rest) ⊎ ((P x → ⊥) × Picks P xs picked)
 
 -- The answer to a query: the minimal failing tuples of at most `size` of the items, each once, in order.
 unfoldable pub IsAnswer : (List ℕ → Type 0) → ℕ → ℕ → List (List ℕ) → Type 0

@@ -1,4 +1,5 @@
--- Sets of items as strictly rising lists of item numbers, called tuples; their order, the list of all, and their subsets.
+-- Sets of items as strictly rising lists of item numbers, called tuples; their order, the list of all, and their
+-- subsets.
 use Rattle.std.specs.Prelude.{◌≡◌, ℕ, zero, suc, ◌%◌, ◌/◌, ◌<◌, ◌≤◌, ◌⊎◌, ◌==◌, if◌then◌else◌, List, [], ◌∷◌, ◌++◌, map, length, slice_get, Some, Contains}
 
 -- the numbers rise strictly, from low on and below high

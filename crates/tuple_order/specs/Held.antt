@@ -17,7 +17,8 @@ length-held places size h =
     let P : ℕ → Type 0 = λ n. size ≤ n in
     length-take-le size places (subst P (sym h.six) h.short)
 
-pub places-held : (places : List ℕ) (size : ℕ) → IsHeld places size → take size places ++ replicate (most_size - length (take size places)) 0 ≡ places
+pub places-held : (places : List ℕ) (size : ℕ) → IsHeld places size → take size places
+    ++ replicate (most_size - length (take size places)) 0 ≡ places
 places-held places size h =
     ap (λ (n : ℕ). take size places ++ replicate (most_size - n) 0) (length-held places size h)
     ∙ ap (λ (r : List ℕ). take size places ++ r) (sym h.zeros)

@@ -11,9 +11,9 @@ use Rattle.gadget_tree.specs.Gadgets.{IsInputShare}
 use Rattle.bit_lists.specs.BitLists.{chosen_sum}
 use Rattle.bit_lists.specs.SetSums.{set_sum}
 
--- The table of a gadget. `products` are the products of input shares that the variables need, each as the set of its shares, which
--- is a number. By variable, `random_rows` has the set of its randoms, `share_rows` the places of its products, as bits in words of
--- 64, and `uses` how many operand places name it.
+-- The table of a gadget. `products` are the products of input shares that the variables need, each as the set of its
+-- shares, which is a number. By variable, `random_rows` has the set of its randoms, `share_rows` the places of its
+-- products, as bits in words of 64, and `uses` how many operand places name it.
 pub record Table : Type 0 where
   pub random_rows : List ℕ
   pub share_rows : List (List ℕ)
@@ -38,7 +38,8 @@ product_values products x = map (λ set. set_product 64 set x) products
 
 -- the sum of a variable's products, at inputs x
 abbrev pub shares_value : Table → ℕ → (ℕ → Bool) → Bool
-shares_value t v x = chosen_sum (row_bits (length t.products) (slice_index_or t.share_rows v [])) (product_values t.products x)
+shares_value t v x =
+    chosen_sum (row_bits (length t.products) (slice_index_or t.share_rows v [])) (product_values t.products x)
 
 -- the sum of a variable's randoms, of which there are n, at an assignment r
 abbrev pub randoms_value : Table → ℕ → ℕ → List Bool → Bool
@@ -64,7 +65,8 @@ words_for n = (n + 63) / 64
 abbrev pub most_products : ℕ
 most_products = 4096
 
--- what holds of each table: there is a row of each kind for each variable, and the words of a share row have a bit for each product
+-- what holds of each table: there is a row of each kind for each variable, and the words of a share row have a bit for
+-- each product
 pub record IsTable (t : Table) : Type 0 where
   pub few_variables : length t.random_rows ≤ most_variables
   pub every_share_row : length t.share_rows ≡ length t.random_rows
@@ -73,9 +75,10 @@ pub record IsTable (t : Table) : Type 0 where
   pub words : All (λ row. length row ≡ words_for (length t.products)) t.share_rows
   pub small_products : All (λ p. p < 2 ^ 64) t.products
 
--- A table stands for a gadget: it has the gadget's variables, and for all inputs x and each assignment r of the randoms the randoms
--- of a variable's row and the products of its row sum to the variable's value. A random row has only randoms of the gadget, a share
--- row only places of products. Different products are of different sets of shares, all of them input shares of the gadget.
+-- A table stands for a gadget: it has the gadget's variables, and for all inputs x and each assignment r of the randoms
+-- the randoms of a variable's row and the products of its row sum to the variable's value. A random row has only
+-- randoms of the gadget, a share row only places of products. Different products are of different sets of shares, all
+-- of them input shares of the gadget.
 pub record StandsFor (t : Table) (g : Circuit) : Type 0 where
   pub every_random_row : length t.random_rows ≡ length g.variables
   pub every_share_row : length t.share_rows ≡ length g.variables

@@ -67,7 +67,8 @@ IsFitMonomial g vs = ((v : ℕ) × (vs ≡ v ∷ []) × IsRandom g v) ⊎ ((leng
 -- a term stands for a monomial: it has the same value at all inputs and for each assignment of the randoms
 pub record IsTermOf (g : Circuit) (monomial : ℕ) (t : Term) : Type 0 where
   pub term : IsTerm g t
-  pub value : (x : ℕ → Bool) (r : List Bool) → set_product (length g.variables) monomial (value g x r) ≡ term_value t x r
+  pub value : (x : ℕ → Bool) (r : List Bool) → set_product (length g.variables) monomial (value g x r)
+      ≡ term_value t x r
 
 -- each monomial of a polynomial is a random alone, or at most two input shares
 pub record IsFitPolynomial (g : Circuit) (p : List ℕ) : Type 0 where
@@ -75,13 +76,14 @@ pub record IsFitPolynomial (g : Circuit) (p : List ℕ) : Type 0 where
   pub random_alone : HasRandomProduct g p → ⊥
   pub few_shares : HasDegreeAboveTwo g p → ⊥
 
--- Randoms and products stand for a polynomial: at all inputs and for each assignment of the randoms they sum to its value. They
--- are of the gadget.
+-- Randoms and products stand for a polynomial: at all inputs and for each assignment of the randoms they sum to its
+-- value. They are of the gadget.
 pub record SumTo (g : Circuit) (p : List ℕ) (randoms : ℕ) (products : List ℕ) : Type 0 where
   pub randoms_exist : randoms < 2 ^ g.randoms
   pub products_exist : All (IsShareProduct g) products
   pub values : (x : ℕ → Bool) (r : List Bool) →
-      polynomial_value (length g.variables) p (value g x r) ≡ add (polynomial_value 64 products x) (set_sum g.randoms randoms (random_at r))
+      polynomial_value (length g.variables) p (value g x r)
+          ≡ add (polynomial_value 64 products x) (set_sum g.randoms randoms (random_at r))
 
 -- the products of each variable
 abbrev pub products_of : List Terms → List ℕ
