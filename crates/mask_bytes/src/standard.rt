@@ -51,7 +51,8 @@ impl<T: Read> Source for StdSource<T> {
 }
 
 /// A sink over a writer. As a sink it tells no bytes. Contracts see the writer and how many writes
-/// failed, so that bytes that std's contracts tell of the writer are passed on exactly.
+/// failed, so that bytes that std's contracts tell of the writer are passed on exactly. It never
+/// flushes: a writer that holds bytes back, as a `BufWriter`, is flushed by whoever owns it.
 #[derive(Debug, Drop)]
 pub struct StdSink<T> {
     writer: T,
