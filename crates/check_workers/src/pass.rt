@@ -44,8 +44,8 @@ fn minimal_of_all<Q: Query, L: Ledger>(
     minimal_in(alloc, query, &mut scratch, all, &mut steps)
 }
 
-/// A list that covers exactly what the failing tuples with these ranks cover. Lists of several ranges can be merged, and
-/// a tuple that the list covers already isn't judged.
+/// A list that covers exactly what the failing tuples with these ranks cover. Lists of several ranges can be merged,
+/// and a tuple that the list covers already isn't judged.
 pub fn minimal_in<Q: Query, L: Ledger>(
     alloc: Global,
     query: &Q,
