@@ -1,2 +1,3 @@
+-- The theorem of `check` doesn't rest on what follows: proofs and the contracts of inner calls use it.
 pub mod BitLists
 pub mod SetSums

@@ -1,4 +1,5 @@
 pub mod Counts
 pub mod Flow
+-- The theorem of `check` doesn't rest on what follows: proofs and the contracts of inner calls use it.
 pub mod MemSource
 pub mod MemSink

@@ -1,6 +1,7 @@
-pub mod Limits
 pub mod Report
-pub mod Texts
 pub mod Words
 pub mod Ends
+-- The theorem of `check` doesn't rest on what follows: proofs and the contracts of inner calls use it.
+pub mod Limits
+pub mod Texts
 pub mod Causes

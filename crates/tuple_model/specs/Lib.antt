@@ -1,4 +1,5 @@
-pub mod Limits
 pub mod Tuples
 pub mod Minimal
+-- The theorem of `check` doesn't rest on what follows: proofs and the contracts of inner calls use it.
+pub mod Limits
 pub mod Antichains

@@ -1,7 +1,8 @@
+pub mod Refusals
+-- The theorem of `check` doesn't rest on what follows: proofs and the contracts of inner calls use it.
 pub mod Tables
 pub mod Inside
 pub mod Terms
 pub mod ShareRows
-pub mod Refusals
 pub mod WirePolynomials
 pub mod UseCounts

@@ -83,7 +83,7 @@ pub record SumTo (g : Circuit) (p : List ℕ) (randoms : ℕ) (products : List �
   pub products_exist : All (IsShareProduct g) products
   pub values : (x : ℕ → Bool) (r : List Bool) →
       polynomial_value (length g.variables) p (value g x r)
-          ≡ add (polynomial_value 64 products x) (set_sum g.randoms randoms (random_at r))
+      ≡ add (polynomial_value 64 products x) (set_sum g.randoms randoms (random_at r))
 
 -- the products of each variable
 abbrev pub products_of : List Terms → List ℕ
