@@ -1,0 +1,44 @@
+//! What a gadget is checked for.
+
+ghost use Rattle.std.specs.Prelude.{◌≡◌};
+ghost use Rattle.mask_terms.specs.Tasks.{task_named, task_word};
+
+/// What a gadget is checked for.
+#[derive(Clone, Copy, Debug, PartialEq, Eq, Drop)]
+pub enum Task {
+    /// Non-interference.
+    Ni,
+    /// Tight non-interference.
+    Tni,
+    /// Strong non-interference.
+    Sni,
+    /// Probe-isolating non-interference.
+    Pini,
+}
+
+impl Task {
+    /// The word by which a command line and a report name the task.
+    pub fn word(self) -> &'static str
+        ensures { result.now ≡ task_word self }
+    {
+        match self {
+            Task::Ni => "ni",
+            Task::Tni => "tni",
+            Task::Sni => "sni",
+            Task::Pini => "pini",
+        }
+    }
+
+    /// The task of this word, or `None` where no task has it.
+    pub fn named(word: &str) -> Option<Task>
+        ensures { result ≡ task_named word.now }
+    {
+        match word {
+            "ni" => Some(Task::Ni),
+            "tni" => Some(Task::Tni),
+            "sni" => Some(Task::Sni),
+            "pini" => Some(Task::Pini),
+            _ => None,
+        }
+    }
+}

@@ -1,0 +1,26 @@
+//! Which wires of a gadget are probed.
+
+ghost use Rattle.std.specs.Prelude.{◌≡◌};
+ghost use Rattle.mask_terms.specs.Wires.{wires_named};
+
+/// Which wires of a gadget are probed.
+#[derive(Clone, Copy, Debug, PartialEq, Eq, Drop)]
+pub enum Wires {
+    /// Each variable is one wire.
+    Plain,
+    /// Each variable is as many wires as its uses make copies of it.
+    Copies,
+}
+
+impl Wires {
+    /// The kind of wires of this word, or `None` where no kind has it.
+    pub fn named(word: &str) -> Option<Wires>
+        ensures { result ≡ wires_named word.now }
+    {
+        match word {
+            "plain" => Some(Wires::Plain),
+            "copies" => Some(Wires::Copies),
+            _ => None,
+        }
+    }
+}
