@@ -1,0 +1,68 @@
+//! From the words of a command line to settings.
+
+ghost use Rattle.std.specs.Prelude.{◌≡◌, map, drop, option_map, string_bytes};
+ghost use Rattle.mask_words.specs.Settings.{AgreesWith, settings_from, settings_of, wires_by};
+ghost use Rattle.mask_words.specs.Shown.{shown};
+
+use crate::answer::{Settings, WordsError};
+use crate::given::{Given, read};
+use crate::number::number_between;
+use crate::options::{BLOCK, BUDGET, MOST_ORDER, SIZE, WORDS, WORKERS, value};
+use mask_terms::{Opt, Task, UsageKind, Wires};
+use std::alloc::Global;
+
+fn wires(text: Option<&str>) -> Result<Wires, WordsError>
+    ensures { result ≡ wires_by (option_map (λ s. s.now) text.entry) }
+{
+    let Some(text) = text else {
+        return Ok(Wires::Copies);
+    };
+    Wires::named(text).ok_or(WordsError::Usage(UsageKind::Value(Opt::Wires)))
+}
+
+// The checks of what is given, in their order.
+fn settings_from(given: &Given) -> Result<Settings, WordsError>
+    ensures { result ≡ settings_from (shown given.now) }
+{
+    let Some(task) = Task::named(given.task) else {
+        return Err(WordsError::Usage(UsageKind::Task));
+    };
+    let Some(t) = number_between(given.argument, 0, MOST_ORDER) else {
+        return Err(WordsError::Usage(UsageKind::Argument));
+    };
+    value(SIZE, given.size)?;
+    let workers = value(WORKERS, given.workers)?;
+    let block = value(BLOCK, given.block)?;
+    let budget = value(BUDGET, given.budget)?;
+    let words = value(WORDS, given.words)?;
+    let wires = wires(given.wires)?;
+    if given.size.is_some() || given.wires.is_some() {
+        return Err(WordsError::SizeNotUsed);
+    }
+    Ok(Settings {
+        task,
+        t: t as u8,
+        size: t as u8,
+        workers: workers as u16,
+        block,
+        budget,
+        words: words as u32,
+        wires,
+        tallies: given.tallies,
+    })
+}
+
+/// The settings that the words of a command line give, of which the first is the program's name. Where something is
+/// wrong, the error is that of the first check that fails: of the words as a whole, of the task, of its argument, of the
+/// options' values in the order of their table, and at last whether the task uses `--size` and `--wires`.
+pub fn settings(alloc: Global, words: &[String]) -> Result<Settings, WordsError>
+    ensures { AgreesWith (settings_of (drop 1 (map string_bytes words.now))) result }
+{
+    let Ok(read) = read(alloc, words) else {
+        return Err(WordsError::OutOfMemory);
+    };
+    let Some(given) = read else {
+        return Err(WordsError::Usage(UsageKind::Words));
+    };
+    settings_from(&given)
+}

@@ -1,0 +1,91 @@
+//! Tests of `settings` on command lines that few would write.
+use crate::{Settings, WordsError, settings};
+use mask_terms::{Opt, Task, UsageKind, Wires};
+use std::alloc::{AllocError, Global};
+use std::string::String;
+
+fn strings(alloc: Global, words: &[&str]) -> Result<Vec<String>, AllocError> {
+    let mut list = Vec::new(alloc);
+    for word in words {
+        list.push(String::from_str(alloc, word)?)?;
+    }
+    Ok(list)
+}
+
+fn of_words(alloc: Global, words: &[&str]) -> Result<Settings, WordsError> {
+    let Ok(words) = strings(alloc, words) else {
+        return Err(WordsError::OutOfMemory);
+    };
+    settings(alloc, words.as_slice())
+}
+
+// The program's name, and this word this often.
+fn repeated(alloc: Global, word: &str, times: usize) -> Result<Vec<String>, AllocError> {
+    let mut list = Vec::new(alloc);
+    list.push(String::from_str(alloc, "mask")?)?;
+    for _ in 0..times {
+        list.push(String::from_str(alloc, word)?)?;
+    }
+    Ok(list)
+}
+
+// A word of a million digits.
+fn million(alloc: Global) -> Result<String, AllocError> {
+    let mut word = String::new(alloc);
+    for _ in 0..1000000 {
+        word.push('1')?;
+    }
+    Ok(word)
+}
+
+#[test]
+fn options_stand_anywhere(rt: HostRuntime) {
+    let words = [
+        "mask",
+        "--workers=2",
+        "pini",
+        "--block",
+        "7",
+        "3",
+        "--tallies",
+    ];
+    let Ok(given) = of_words(rt.alloc(), &words) else {
+        panic!(rt; "refused")
+    };
+    assert!(rt; given.task == Task::Pini && given.t == 3 && given.size == 3 && given.workers == 2);
+    assert!(rt; given.block == 7 && given.budget == 16777216 && given.words == 65536);
+    assert!(rt; given.wires == Wires::Copies && given.tallies);
+}
+
+#[test]
+fn each_error_comes(rt: HostRuntime) {
+    let alloc = rt.alloc();
+    assert!(rt; of_words(alloc, &["mask", "--help"]) == Err(WordsError::Usage(UsageKind::Words)));
+    assert!(rt; of_words(alloc, &["mask", "rpc", "1"]) == Err(WordsError::Usage(UsageKind::Task)));
+    assert!(rt;
+        of_words(alloc, &["mask", "ni", "7"]) == Err(WordsError::Usage(UsageKind::Argument))
+    );
+    let value = Err(WordsError::Usage(UsageKind::Value(Opt::Workers)));
+    assert!(rt; of_words(alloc, &["mask", "ni", "1", "--workers=+1"]) == value);
+    assert!(rt; of_words(alloc, &["mask", "ni", "1", "--size=2"]) == Err(WordsError::SizeNotUsed));
+}
+
+#[test]
+fn many_words_are_refused(rt: HostRuntime) {
+    let alloc = rt.alloc();
+    let refused = Err(WordsError::Usage(UsageKind::Words));
+    let words = repeated(alloc, "ni", 10000).expect(&rt, "memory");
+    assert!(rt; settings(alloc, words.as_slice()) == refused);
+    let words = repeated(alloc, "--workers=2", 10000).expect(&rt, "memory");
+    assert!(rt; settings(alloc, words.as_slice()) == refused);
+    assert!(rt; of_words(alloc, &[]) == refused);
+}
+
+#[test]
+fn a_long_word_is_refused(rt: HostRuntime) {
+    let alloc = rt.alloc();
+    let mut words = strings(alloc, &["mask", "ni"]).expect(&rt, "memory");
+    let word = million(alloc).expect(&rt, "memory");
+    words.push(word).expect(&rt, "memory");
+    assert!(rt; settings(alloc, words.as_slice()) == Err(WordsError::Usage(UsageKind::Argument)));
+}
