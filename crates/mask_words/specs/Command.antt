@@ -27,7 +27,8 @@ with_option app name = with_rule app (option_rule name)
 -- the command with its two words alone
 abbrev pub two_word_command : App
 two_word_command =
-    with_rule (with_rule (without_help (new_app (codes "mask"))) (required_rule (codes "TASK"))) (required_rule (codes "ARG"))
+    with_rule (with_rule (without_help (new_app (codes "mask"))) (required_rule (codes "TASK")))
+    (required_rule (codes "ARG"))
 
 -- the whole command
 unfoldable pub mask_command : App

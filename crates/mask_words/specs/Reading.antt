@@ -38,7 +38,8 @@ long_item name None rest =
     else (if bytes_eq flag_name name then after flag (rest None) else None)
 
 -- an option or the flag; else a positional word, which has no hyphen at its start
-abbrev pub other_item : Option (Text × Option Text) → Text → (Option Text → Option (List Item)) → Option (List Item)
+abbrev pub other_item : Option (Text × Option Text) → Text → (Option Text → Option (List Item))
+    → Option (List Item)
 other_item (Some (name, value)) word rest = long_item name value rest
 other_item None word rest = if begins_with_hyphen word then None else after (positional word) (rest None)
 

@@ -11,6 +11,7 @@ use crate::options::{BLOCK, BUDGET, MOST_ORDER, SIZE, WORDS, WORKERS, value};
 use mask_terms::{Opt, Task, UsageKind, Wires};
 use std::alloc::Global;
 
+// The kind of wires that `--wires` asks for.
 fn wires(text: Option<&str>) -> Result<Wires, WordsError>
     ensures { result ≡ wires_by (option_map (λ s. s.now) text.entry) }
 {
@@ -53,8 +54,8 @@ fn settings_from(given: &Given) -> Result<Settings, WordsError>
 }
 
 /// The settings that the words of a command line give, of which the first is the program's name. Where something is
-/// wrong, the error is that of the first check that fails: of the words as a whole, of the task, of its argument, of the
-/// options' values in the order of their table, and at last whether the task uses `--size` and `--wires`.
+/// wrong, the error is that of the first check that fails: of the words as a whole, of the task, of its argument, of
+/// the options' values in the order of their table, and at last whether the task uses `--size` and `--wires`.
 pub fn settings(alloc: Global, words: &[String]) -> Result<Settings, WordsError>
     ensures { AgreesWith (settings_of (drop 1 (map string_bytes words.now))) result }
 {
