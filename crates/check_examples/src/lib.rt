@@ -1,21 +1,14 @@
-//! Worked examples of whole checks: files, faults and limits, and what each check answers and writes; and of the layers
-//! below, by their public calls.
+//! Worked examples of whole checks: files, faults and limits, and what each check answers and writes.
 #![tactic(auto)]
 
-#[cfg(test)]
-mod antichains;
 #[cfg(test)]
 mod fixture;
 #[cfg(test)]
 mod forms;
 #[cfg(test)]
-mod kernels;
-#[cfg(test)]
 mod least_sets;
 #[cfg(test)]
 mod limits;
-#[cfg(test)]
-mod polynomials;
 #[cfg(test)]
 mod products;
 #[cfg(test)]
@@ -24,10 +17,6 @@ mod randoms;
 mod read_faults;
 #[cfg(test)]
 mod standard;
-#[cfg(test)]
-mod tables;
-#[cfg(test)]
-mod tuples;
 #[cfg(test)]
 mod verdicts;
 #[cfg(test)]

@@ -6,7 +6,7 @@ use Rattle.std.proofs.lemmas.List.Elements.{All-weaker}
 use Rattle.std.proofs.lemmas.List.Sums.{AllPass-from_list_all}
 use Rattle.smallvec.specs.SmallVec.{SmallVec}
 use Rattle.anf.proofs.FewVariables.{HasFewVariables-from_pairs}
-use Rattle.check_examples.proofs.polynomials.has_few_variables.Goals as goal
+use Rattle.layer_examples.proofs.polynomials.has_few_variables.Goals as goal
 
 pub returns : goal.returns
 returns c =

@@ -1,0 +1,13 @@
+//! Worked examples of the layers between files and checks, by their public calls.
+#![tactic(auto)]
+
+#[cfg(test)]
+mod antichains;
+#[cfg(test)]
+mod kernels;
+#[cfg(test)]
+mod polynomials;
+#[cfg(test)]
+mod tables;
+#[cfg(test)]
+mod tuples;
