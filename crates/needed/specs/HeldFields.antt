@@ -4,8 +4,8 @@ use Rattle.needed.specs.declared.elimination.Elimination.TheInside.{Inside}
 use Rattle.needed.specs.LeastSets.{HoldsLeastSets}
 
 -- the table that it borrows
-abbrev pub table_of : Inside → Table
-table_of e = e.table.now
+abbrev pub borrowed_table : Inside → Table
+borrowed_table e = e.table.now
 
 -- what it holds is held for its table
 abbrev pub IsElimination : Inside → Type 0

@@ -27,9 +27,9 @@ impl<'t> Model for Elimination<'t> {
 
     ghost Value = { Table };
 
-    ghost use Rattle.needed.specs.HeldFields.{table_of, IsElimination};
+    ghost use Rattle.needed.specs.HeldFields.{borrowed_table, IsElimination};
 
-    ghost view = { table_of };
+    ghost view = { borrowed_table };
 
     ghost invariant = { IsElimination };
 }
