@@ -5,11 +5,10 @@ use Rattle.std.specs.List.Sorted.{IsNonDecreasing}
 use Rattle.std.proofs.Math.ListN.{length-map, get_or-map}
 use Rattle.std.proofs.lemmas.Bool.{cases_lt}
 use Rattle.std.proofs.lemmas.List.{get_or_default}
-use Rattle.std.proofs.lemmas.List.Elements.{All-contains, All-head, All-tail, All-nil}
+use Rattle.std.proofs.lemmas.List.Elements.{All-contains, All-head, All-tail}
 use Rattle.list_laws.proofs.Members.{Contains-map, Contains-from_map, AllPairs-map, AllPairs-weaker}
 use Rattle.tuple_model.specs.Limits.{most_items, most_size}
 use Rattle.tuple_model.specs.Tuples.{IsTuple, IsBefore}
-use Rattle.tuple_model.proofs.Antichains.{IsAntichain-nil}
 use Rattle.tuple_order.specs.Codes.{code_of, tuple_of_code}
 use Rattle.tuple_order.proofs.Codes.{tuple_of_code-code_of, code_of-before, IsBefore-from_code_of}
 use Rattle.antichain_list.specs.Held.{IsCode, AreCodes}
@@ -18,9 +17,6 @@ pub IsCode-code_of : (t : List ℕ) → IsTuple most_items most_size t → IsCod
 IsCode-code_of t h =
     let e = tuple_of_code-code_of t h in
     record { tuple = subst (IsTuple most_items most_size) (sym e) h; same = ap code_of e }
-
-pub AreCodes-nil : AreCodes []
-AreCodes-nil = record { coded = All-nil IsCode; antichain = IsAntichain-nil }
 
 -- the codes of the tuples are the numbers that are held
 pub map-code_of : (codes : List ℕ) → All IsCode codes → map code_of (map tuple_of_code codes) ≡ codes

@@ -1,5 +1,5 @@
 -- A walk that moves the picked elements of a list to its start.
-use Rattle.std.proofs.Common.{◌≡◌, ℕ, ◌+◌, ◌<◌, ◌≤◌, List, [], ◌∷◌, ◌++◌, length, take, take_all, drop, set, get_or, Some, ap, sym, ◌∙◌, arith, subst}
+use Rattle.std.proofs.Common.{◌≡◌, ℕ, ◌+◌, ◌<◌, ◌≤◌, List, [], ◌∷◌, ◌++◌, length, take, drop, set, get_or, Some, ap, sym, ◌∙◌, arith, subst}
 use Rattle.std.specs.List.{All, slice_get}
 use Rattle.std.proofs.lemmas.List.{length-set, drop-set-lt, take_more_set, get_or-drop}
 use Rattle.std.proofs.lemmas.Grind.{drop_more_same}
@@ -51,6 +51,3 @@ module _ {X : Type 0} (P : X → Type 0) (xs ys : List X) (kept place : ℕ) (d 
     within = let l = h.within in omega arith;
     long = h.long;
   }
-
-pub PicksInPlace-all : {X : Type 0} (P : X → Type 0) (xs ys : List X) (kept place : ℕ) → PicksInPlace P xs ys kept place → length xs ≤ place → Picks P xs (take kept ys)
-PicksInPlace-all {X} P xs ys kept place h l = let Q : List X → Type 0 = λ zs. Picks P zs (take kept ys) in subst Q (take_all place xs l) h.picked

@@ -26,12 +26,6 @@ set_sum-zero (suc n) bits =
     ap (λ (s : Bool). add s (eqb (bit_at 0 n) 1 && bits n)) (set_sum-zero n bits)
     ∙ ap (λ (b : ℕ). eqb b 1 && bits n) (bit_at-zero n)
 
--- where all bits are false, so is each sum
-pub set_sum-none : (n set : ℕ) → set_sum n set (λ j. false) ≡ false
-set_sum-none zero set = refl
-set_sum-none (suc n) set =
-    ap (λ (s : Bool). add s (eqb (bit_at set n) 1 && false)) (set_sum-none n set) ∙ and-false (eqb (bit_at set n) 1)
-
 -- bit k alone is true
 abbrev pub only : ℕ → ℕ → Bool
 only k j = eqb j k

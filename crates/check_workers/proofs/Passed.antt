@@ -3,7 +3,6 @@ use Rattle.std.proofs.Common.{◌≡◌, ℕ, suc, ◌+◌, ◌<◌, ◌≤◌, 
 use Rattle.std.specs.List.{slice_get}
 use Rattle.std.proofs.lemmas.Bool.{cases_Bool, cases_lt}
 use Rattle.std.proofs.lemmas.Option.{slice_get_within}
-use Rattle.list_laws.proofs.Once.{Contains-nil}
 use Rattle.tuple_model.specs.Tuples.{IsSubset, HasRank, tuples}
 use Rattle.tuple_model.specs.Minimal.{IsAnswer}
 use Rattle.tuple_model.specs.Antichains.{IsAntichain, Adds}
@@ -20,13 +19,6 @@ abbrev pub IsAtRank : ℕ → ℕ → ℕ → ℕ → List ℕ → Type 0
 IsAtRank items size to rank t = rank < to → HasRank items size t rank
 
 module _ (Fails : List ℕ → Type 0) (items size : ℕ) where
-  -- before the first rank nothing is covered
-  pub CoversBefore-start : (from : ℕ) → CoversBefore Fails items size from from []
-  CoversBefore-start from t = (
-    (λ c. absurd (Contains-nil c.0 c.1)),
-    (λ r. let first = r.begun in let last = r.before_end in absurd (omega arith)),
-  )
-
   -- one tuple more
   pub CoversBefore-more : (from rank : ℕ) (t : List ℕ) (before after : List (List ℕ)) → from ≤ rank → HasRank items size t rank →
       CoversBefore Fails items size from rank before → CoversNext Fails before t after → CoversBefore Fails items size from (rank + 1) after

@@ -3,17 +3,11 @@ use Rattle.std.proofs.Common.{◌≡◌, ◌<◌, ◌≤◌, ◌+◌, ℕ, suc, 
 use Rattle.std.proofs.lemmas.List.{map-append, drop_all}
 use Rattle.gadget_model.specs.Circuit.{Node, Variable}
 use Rattle.gadget_tree.specs.declared.var.VarKind.{VarKind}
-use Rattle.gadget_tree.specs.declared.var.VarKind.TheVariants.{Share}
-use Rattle.gadget_tree.specs.Gadgets.{IsOperationNode}
 use Rattle.gadget_tree.specs.Operations.{made_variables}
 use Rattle.gadget_tree.specs.Made.{names_made, name_made}
 use Rattle.gadget_tree.specs.Seen.{node_of}
 use Rattle.gadget_tree.specs.Variables.{names_of}
 use Rattle.gadget_tree.proofs.NewNames.{AreNew, names-drop}
-
--- a kind that is an operation is no share
-pub operation-no_share : (kind : VarKind) (input index : ℕ) → IsOperationNode (node_of kind) → kind ≡ Share input index → ⊥
-operation-no_share kind input index h e = subst (λ (k : VarKind). IsOperationNode (node_of k)) e h
 
 -- the variable that comes next
 made-next : (line : ℕ) (vars now : List Variable) (name : List ℕ) (n : Node) (names : List (List ℕ)) (nodes : List Node) → now ≡ vars ++ record { name = name; node = n; line = line } ∷ [] →

@@ -1,17 +1,14 @@
 -- The variables that the headers name: their names, how many they are, and their nodes.
 use Rattle.std.proofs.Common.{◌≡◌, ◌<◌, ◌≤◌, ◌+◌, ◌*◌, ◌⊎◌, ℕ, zero, suc, List, [], ◌∷◌, ◌++◌, map, length, Option, Some, None, refl, sym, ap, ◌∙◌, subst, inl, inr, arith}
-use Rattle.std.specs.Prelude.{All, IfSome, option_map}
+use Rattle.std.specs.Prelude.{All}
 use Rattle.std.specs.List.{range_with_len}
-use Rattle.std.proofs.lemmas.List.{map-append, length-append, length-map}
+use Rattle.std.proofs.lemmas.List.{map-append, length-append}
 use Rattle.std.proofs.lemmas.List.Elements.{All-append, All-nil}
 use Rattle.std.proofs.lemmas.List.FromFn.{length-map-range_with_len, get_or-map-range_with_len}
 use Rattle.gadget_model.specs.Circuit.{Node, share, random, Variable}
 use Rattle.list_laws.proofs.Counts.{map-map}
-use Rattle.gadget_text.specs.Places.{text_in}
-use Rattle.gadget_headers.specs.declared.stems.Stems.{Stems}
 use Rattle.gadget_headers.specs.Headers.{Listed, Preamble}
 use Rattle.gadget_headers.specs.Limits.{stems_of}
-use Rattle.gadget_headers.specs.Seen.{listed_in}
 use Rattle.gadget_tree.specs.Variables.{share_name, share_names, names_of, shares_of_input, share_variables, random_variables, listed_randoms, header_variables}
 
 abbrev pub nodes_of : List Variable → List Node
@@ -107,8 +104,3 @@ nodes-header_variables h =
     (All-append P (nodes_of shares) (nodes_of randoms)
     (nodes-share_variables h.inputs.line h.shares 0 inputs count h.inputs.stems (omega arith))
     (nodes-random_variables (line_of_randoms h.randoms) inputs h.shares 0 count (stems_of h.randoms) (omega arith)))
-
--- so many words that a header lists
-pub few_words : (bytes : List ℕ) (stems : Option Stems) (most : ℕ) → length (stems_of (option_map (listed_in bytes) stems)) ≤ most → IfSome stems (λ s. length s.words.now ≤ most)
-few_words bytes None most few = tt
-few_words bytes (Some stems) most few = let l = length-map stems.words.now (text_in bytes) in omega arith

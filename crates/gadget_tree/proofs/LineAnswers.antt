@@ -9,7 +9,7 @@ use Rattle.gadget_text.specs.declared.token.Token.{Token}
 use Rattle.gadget_text.specs.Tokens.{TokenLine}
 use Rattle.gadget_text.specs.Places.{lines_in}
 use Rattle.gadget_text.specs.declared.file_error.FileError.{FileError}
-use Rattle.gadget_text.specs.declared.file_error.FileError.TheVariants.{Syntax, NameTwice, Unknown, TooMany}
+use Rattle.gadget_text.specs.declared.file_error.FileError.TheVariants.{NameTwice, Unknown, TooMany}
 use Rattle.gadget_text.specs.declared.file_error.What.TheVariants.{Variables}
 use Rattle.gadget_limits.specs.Limits.{most_variables}
 use Rattle.gadget_text.specs.Errors.{refuse, ◌>>=◌, ◌>>◌}
@@ -63,11 +63,6 @@ pub says-made : (line : ℕ) (earlier now : List Variable) (x : List ℕ) (steps
     list_all (is_known (names_of earlier)) steps ≡ true → length earlier + count_made steps ≤ most_variables →
     now ≡ earlier ++ made_variables line (names_made x (count_made steps)) (nodes_made (place_of (names_of earlier)) (length earlier) steps) → with_steps line earlier x steps ≡ Ok now
 says-made line earlier now x steps e f l g = rw (e, f, le-ltb most_variables (length earlier + count_made steps) l) (ap Ok (sym g))
-
--- a header line is out of place
-pub header-says : (earlier : List Variable) (line : TokenLine) (o : Option Header) → is_some o ≡ true → SaysByHeader earlier line o (Err (Syntax line.number))
-header-says earlier line (Some header) e = refl
-header-says earlier line None e = absurd cc
 
 -- what a line says is what follows the same result
 said_by_cases : (line : TokenLine) (earlier : List Variable) (said : Result Assigned FileError) (e : FileError) → (let r : Result AssignedSteps FileError = Err e in r) ≡ (said >>= λ a. Ok (in_steps a)) →

@@ -1,5 +1,5 @@
 -- Names among others: the tests and the facts.
-use Rattle.std.proofs.Common.{◌≡◌, ◌↔◌, ◌<◌, ◌+◌, ℕ, suc, Bool, true, false, cond, not, ◌||◌, List, [], ◌∷◌, ◌++◌, length, length-append, get_or, drop, drop-cons, refl, sym, ap, ◌∙◌, subst, inl, inr, arith, Contains}
+use Rattle.std.proofs.Common.{◌≡◌, ◌<◌, ◌+◌, ℕ, suc, Bool, true, false, cond, not, ◌||◌, List, [], ◌∷◌, ◌++◌, length, length-append, get_or, drop, drop-cons, refl, sym, ap, ◌∙◌, subst, inl, inr, arith, Contains}
 use Rattle.std.specs.Str.{bytes_eq}
 use Rattle.std.proofs.lemmas.Bool.{and_parts, and_from, or_cases, or_left, or_right, not-true, not_from_false, false_from_ne_true}
 use Rattle.std.proofs.lemmas.List.{length-map, get_or_append_left, get_or_at}
@@ -29,10 +29,6 @@ contains_among (name ∷ names) w h = elim (Contains-cons_cases name names w h) 
 pub is_among-false : (names : List (List ℕ)) (w : List ℕ) → (Contains names w → ⊥) → is_among names w ≡ false
 is_among-false names w h = false_from_ne_true (is_among names w) (λ found. h (among_contains names w found))
 
--- both ways
-pub is_among-Contains : (names : List (List ℕ)) (w : List ℕ) → (is_among names w ≡ true) ↔ Contains names w
-is_among-Contains names w = (among_contains names w, contains_among names w)
-
 -- names that pass the test differ
 pub distinct_from_test : (names : List (List ℕ)) → are_distinct names ≡ true → AreDistinct names
 distinct_from_test [] e = Once-nil
@@ -47,10 +43,6 @@ test_from_distinct [] h = refl
 test_from_distinct (name ∷ names) h =
     let new : is_among names name ≡ false = false_from_ne_true (is_among names name) (λ found. Once-head name names h (among_contains names name found)) in
     and_from (not (is_among names name)) (are_distinct names) (not_from_false (is_among names name) new) (test_from_distinct names (Once-tail name names h))
-
--- both ways
-pub are_distinct-AreDistinct : (names : List (List ℕ)) → (are_distinct names ≡ true) ↔ AreDistinct names
-are_distinct-AreDistinct names = (distinct_from_test names, test_from_distinct names)
 
 -- a name among the names has a place
 pub place_below : (names : List (List ℕ)) (w : List ℕ) → is_among names w ≡ true → place_of names w < length names

@@ -11,10 +11,6 @@ use Rattle.wire_table.specs.Tables.{has_bit}
 use Rattle.needed.specs.Sums.{RowIsWithin, WordIsWithin}
 use Rattle.needed.proofs.LowestBits.{IsLowest, bit_at-without_lowest, bit_from_rest}
 
--- the empty set is within each set
-pub IsWithin-zero : (set : ℕ) → IsWithin 0 set
-IsWithin-zero set k h = absurd (let z = bit_at-zero k in omega arith)
-
 -- a union of two sets is within a set exactly where both are
 pub IsWithin-or : (a b set : ℕ) → IsWithin (bit_or a b) set ↔ (IsWithin a set × IsWithin b set)
 IsWithin-or a b set = (

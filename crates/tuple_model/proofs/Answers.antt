@@ -1,5 +1,5 @@
 -- The answer to a query, for any meaning of failing: there is at most one, and each failing tuple has a subset in it.
-use Rattle.std.proofs.Common.{◌≡◌, ℕ, zero, suc, ◌-◌, ◌^◌, ◌<◌, ◌≤◌, ◌⊎◌, List, [], ◌∷◌, length, take, take_all, refl, ap, sym, inl, inr, arith, subst, Contains, pow_pos}
+use Rattle.std.proofs.Common.{◌≡◌, ℕ, zero, suc, ◌-◌, ◌^◌, ◌<◌, ◌≤◌, ◌⊎◌, List, [], ◌∷◌, length, refl, ap, sym, inl, inr, arith, subst, Contains, pow_pos}
 use Rattle.std.proofs.lemmas.Bool.{cases_lt, cases_eq}
 use Rattle.list_laws.proofs.Members.{Contains-cons_head, Contains-cons_tail, Contains-cons_cases}
 use Rattle.list_laws.proofs.Once.{Contains-nil}
@@ -14,13 +14,6 @@ module _ (Fails : List ℕ → Type 0) (items size : ℕ) where
   pub IsAnswer-from_Picks : (answer : List (List ℕ)) → Picks (IsMinimal Fails) (tuples items size) answer → IsAnswer Fails items size answer
   unfolding IsAnswer
   IsAnswer-from_Picks answer h = h
-
-  -- what a walk has picked when it has gone through all tuples
-  pub IsAnswer-from_walk : (answer : List (List ℕ)) (rank : ℕ) → length (tuples items size) ≤ rank →
-      Picks (IsMinimal Fails) (take rank (tuples items size)) answer → IsAnswer Fails items size answer
-  IsAnswer-from_walk answer rank l h =
-      let P : List (List ℕ) → Type 0 = λ ts. Picks (IsMinimal Fails) ts answer in
-      IsAnswer-from_Picks answer (subst P (take_all rank (tuples items size) l) h)
 
   pub IsAnswer-unique : (a b : List (List ℕ)) → IsAnswer Fails items size a → IsAnswer Fails items size b → a ≡ b
   unfolding IsAnswer

@@ -2,7 +2,7 @@
 use Rattle.std.proofs.Common.{◌≡◌, ℕ, suc, ◌+◌, ◌^◌, ◌<◌, ◌⊎◌, List, [], ◌∷◌, length, refl, ap, sym, ◌∙◌, inl, inr, arith, subst, Contains}
 use Rattle.std.specs.List.{AllPairs}
 use Rattle.std.proofs.lemmas.Bool.{cases_lt, cases_eq}
-use Rattle.std.proofs.lemmas.List.Elements.{All-contains, All-contains_itself, All-nil, All-weaker}
+use Rattle.std.proofs.lemmas.List.Elements.{All-contains, All-contains_itself, All-weaker}
 use Rattle.list_laws.proofs.Members.{Contains-cons_head, Contains-cons_tail, Contains-cons_cases, AllPairs-head, AllPairs-tail}
 use Rattle.list_laws.proofs.Once.{Contains-nil}
 use Rattle.tuple_model.specs.Limits.{most_items, most_size}
@@ -154,14 +154,6 @@ ordered-same (x ∷ xs) (y ∷ ys) o p h k =
 
 pub IsRising-from_antichain : (list : List (List ℕ)) (t : List ℕ) → IsAntichain list → Contains list t → IsRising 0 most_items t
 IsRising-from_antichain list t a k = (All-contains (IsTuple most_items most_size) list t a.tuples k).rising
-
--- the empty list
-pub IsAntichain-nil : IsAntichain []
-IsAntichain-nil = record {
-  tuples = All-nil (IsTuple most_items most_size);
-  ordered = λ i j d l m. absurd (omega (arith, m));
-  apart = λ s t k. absurd (Contains-nil s k);
-}
 
 -- a list covers its members
 pub Covers-member : (list : List (List ℕ)) (t : List ℕ) → Contains list t → Covers list t

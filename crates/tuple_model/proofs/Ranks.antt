@@ -112,13 +112,6 @@ rank-larger_size items size (suc more) rank t e =
     let P : ℕ → Type 0 = λ n. slice_get (tuples items n) rank ≡ Some t in
     subst P z (slice_get-append_left (tuples items (more + size)) (rising (suc (more + size)) items 0) rank (slice_get_within (tuples items (more + size)) rank t i) ∙ i)
 
--- the empty tuple comes first
-pub tuples-first : (items size : ℕ) → slice_get (tuples items size) 0 ≡ Some []
-tuples-first items zero = refl
-tuples-first items (suc size) =
-    let i = tuples-first items size in
-    slice_get-append_left (tuples items size) (rising (suc size) items 0) 0 (slice_get_within (tuples items size) 0 [] i) ∙ i
-
 -- a tuple with a rank below the number of tuples of at most so many items has at most so many
 pub IsTuple-from_low_rank : (items size more rank : ℕ) (t : List ℕ) → rank < length (tuples items size) →
     slice_get (tuples items (more + size)) rank ≡ Some t → IsTuple items size t

@@ -1,5 +1,5 @@
 -- A tuple made item by item from a list, as long as the items rise.
-use Rattle.std.proofs.Common.{◌≡◌, ℕ, suc, ◌+◌, ◌<◌, ◌≤◌, List, [], ◌∷◌, ◌++◌, length, take, drop, get_or, refl, ap, sym, ◌∙◌, arith, subst, length-take, take-append-drop, length-append}
+use Rattle.std.proofs.Common.{◌≡◌, ℕ, suc, ◌+◌, ◌<◌, ◌≤◌, List, [], ◌∷◌, ◌++◌, length, take, drop, get_or, ap, sym, ◌∙◌, arith, subst, length-take, take-append-drop, length-append}
 use Rattle.std.proofs.lemmas.List.{drop_more}
 use Rattle.tuple_model.specs.Tuples.{IsRising, IsTuple}
 
@@ -7,10 +7,6 @@ use Rattle.tuple_model.specs.Tuples.{IsRising, IsTuple}
 abbrev pub after : ℕ → List ℕ → ℕ
 after low [] = low
 after low (x ∷ xs) = after (suc x) xs
-
-pub after-more : (low : ℕ) (s : List ℕ) (x : ℕ) → after low (s ++ x ∷ []) ≡ suc x
-after-more low [] x = refl
-after-more low (y ∷ s) x = after-more (suc y) s x
 
 pub IsRising-more : (low high : ℕ) (s : List ℕ) (x : ℕ) → IsRising low high s → after low s ≤ x → x < high → IsRising low high (s ++ x ∷ [])
 IsRising-more low high [] x h l m = (l, m, tt)
