@@ -1,7 +1,8 @@
 -- What the steps of a line make.
-use Rattle.std.proofs.Common.{◌≡◌, ◌≤◌, ◌+◌, ℕ, Bool, true, false, ◌&&◌, List, [], ◌∷◌, ◌++◌, length, length-append, map, refl, sym, ap, subst, ◌∙◌, append_assoc, append-nil, arith}
+use Rattle.std.proofs.Common.{◌≡◌, ◌≤◌, ◌+◌, ℕ, Bool, true, ◌&&◌, List, [], ◌∷◌, ◌++◌, length, length-append, map, refl, sym, ap, subst, ◌∙◌, append_assoc, append-nil, arith}
 use Rattle.std.specs.Prelude.{max, All}
 use Rattle.std.specs.List.{list_all}
+use Rattle.std.proofs.Math.Bool.{and-true}
 use Rattle.std.proofs.lemmas.List.{length-map}
 use Rattle.std.proofs.lemmas.List.Elements.{All-nil, All-cons, All-head, All-tail}
 use Rattle.std.proofs.lemmas.List.Folds.{list_all-append}
@@ -124,10 +125,7 @@ known-append names a b step known e f =
     ∙ ap (λ (x : Bool). list_all (is_known names) (postfix a ++ postfix b) && (x && true)) known
     ∙ and-true (list_all (is_known names) (postfix a ++ postfix b))
     ∙ list_all-append (is_known names) (postfix a) (postfix b) ∙ ap (λ (x : Bool). x && list_all (is_known names) (postfix b)) e
-    ∙ ap (λ (x : Bool). list_all (is_among names) (leaves a) && x) f ∙ sym (list_all-append (is_among names) (leaves a) (leaves b)) where
-      and-true : (x : Bool) → (x && true) ≡ x
-      and-true true = refl
-      and-true false = refl
+    ∙ ap (λ (x : Bool). list_all (is_among names) (leaves a) && x) f ∙ sym (list_all-append (is_among names) (leaves a) (leaves b))
 
 pub known-postfix : (names : List (List ℕ)) (t : Tree) → list_all (is_known names) (postfix t) ≡ list_all (is_among names) (leaves t)
 known-postfix names (named w) = refl
