@@ -4,7 +4,7 @@ use Rattle.std.specs.Prelude.{option_and_then}
 use Rattle.gadget_text.specs.Names.{is_name}
 use Rattle.gadget_grammar.specs.Symbols.{Symbol, word, plus, times, opening, closing}
 use Rattle.gadget_grammar.specs.Grammar.{Tree, named, parens, sum_of, product_of, spelled, Rule, expr, term, unit, Derives}
-use Rattle.gadget_grammar.proofs.TreeReader.{TreeLevel, TreeState, nothing, joined, next_state, final_tree, tree_from, start}
+use Rattle.gadget_grammar.proofs.TreeReader.{TreeLevel, TreeState, nothing, with_left, next_state, final_tree, tree_from, initial_tree_state}
 
 -- where a unit is wanted
 abbrev opened : List TreeLevel → TreeLevel → TreeState
@@ -45,7 +45,7 @@ after unit outer s p t = have t outer (level s p)
 
 -- a term behind the sum that waits
 abbrev total : Option Tree → Tree → Tree
-total s t = joined sum_of s t
+total s t = with_left sum_of s t
 
 -- behind a term, `*` makes it a left side
 times_after : (outer : List TreeLevel) (s : Option Tree) (t : Tree) → Derives term t → next_state (after_term outer s t) times ≡ Some (opened outer (level s (Some t)))
@@ -150,5 +150,5 @@ reads term (product_of a b) d outer s p rest = product_reads a b d.0 (reads term
 reads unit (product_of a b) d outer s p rest = absurd d
 
 -- what an expression's tree stands for is read as the tree
-pub tree_read : (t : Tree) → Derives expr t → tree_from start (spelled t) ≡ Some t
-tree_read t d = ap (tree_from start) (sym (append-nil (spelled t))) ∙ reads expr t d [] None None [] ∙ end_after t d
+pub tree_read : (t : Tree) → Derives expr t → tree_from initial_tree_state (spelled t) ≡ Some t
+tree_read t d = ap (tree_from initial_tree_state) (sym (append-nil (spelled t))) ∙ reads expr t d [] None None [] ∙ end_after t d

@@ -7,7 +7,7 @@ use Rattle.gadget_grammar.specs.Symbols.{Symbol, word, equals, plus, times, open
 use Rattle.gadget_grammar.specs.Grammar.{Tree, named, sum_of, product_of}
 use Rattle.gadget_grammar.specs.Steps.{NamedStep, name, sum, product, postfix}
 use Rattle.gadget_grammar.specs.Machine as machine
-use Rattle.gadget_grammar.proofs.TreeReader.{TreeLevel, TreeState, joined, whole, after_closing, next_before_unit, next_behind_unit, next_state, next_state_at, final_tree_at, tree_from, start}
+use Rattle.gadget_grammar.proofs.TreeReader.{TreeLevel, TreeState, with_left, whole, after_closing, next_before_unit, next_behind_unit, next_state, next_state_at, final_tree_at, tree_from, initial_tree_state}
 
 -- the steps of a tree, where there is one
 abbrev steps_of : Option Tree → List NamedStep
@@ -37,13 +37,13 @@ state_of s = state_at s.outer s.here s.unit
 
 -- a product that waits is put out behind its right side
 product_posted : (front : List NamedStep) (p : Option Tree) (u : Tree) →
-    machine.with_waiting (is_some p) product (front ++ (steps_of p ++ postfix u)) ≡ front ++ postfix (joined product_of p u)
+    machine.with_waiting (is_some p) product (front ++ (steps_of p ++ postfix u)) ≡ front ++ postfix (with_left product_of p u)
 product_posted front None u = refl
 product_posted front (Some a) u = simp append_assoc
 
 -- a sum that waits is put out behind its right side
 sum_posted : (front : List NamedStep) (s : Option Tree) (t : Tree) →
-    machine.with_waiting (is_some s) sum (front ++ (steps_of s ++ postfix t)) ≡ front ++ postfix (joined sum_of s t)
+    machine.with_waiting (is_some s) sum (front ++ (steps_of s ++ postfix t)) ≡ front ++ postfix (with_left sum_of s t)
 sum_posted front None t = refl
 sum_posted front (Some a) t = simp append_assoc
 
@@ -54,8 +54,8 @@ level_posted front l u =
     let s = steps_of l.sum in
     let p = steps_of l.product in
     ap (λ (z : List NamedStep). machine.with_level (level_of l) z) (ap (λ (z : List NamedStep). front ++ z) (append_assoc s p (postfix u)) ∙ sym (append_assoc front s (p ++ postfix u)))
-    ∙ ap (machine.with_waiting (is_some l.sum) sum) (product_posted (front ++ s) l.product u ∙ append_assoc front s (postfix (joined product_of l.product u)))
-    ∙ sum_posted front l.sum (joined product_of l.product u)
+    ∙ ap (machine.with_waiting (is_some l.sum) sum) (product_posted (front ++ s) l.product u ∙ append_assoc front s (postfix (with_left product_of l.product u)))
+    ∙ sum_posted front l.sum (with_left product_of l.product u)
 
 -- the machine's next state is that of the tree reader's
 abbrev Same : Option machine.State → Option TreeState → Type 0
@@ -99,7 +99,7 @@ behind_unit_posted ls l u times =
     ap (λ (z : List NamedStep). Some (record { steps = z; outer = map level_of ls; here = record { sum = is_some l.sum; product = true }; has_unit = false }))
     (ap (machine.with_waiting (is_some l.product) product) (ap (λ (z : List NamedStep). outer_steps ls ++ z) (append_assoc (steps_of l.sum) (steps_of l.product) (postfix u)) ∙ sym (append_assoc (outer_steps ls) (steps_of l.sum) (steps_of l.product ++ postfix u)))
     ∙ product_posted (outer_steps ls ++ steps_of l.sum) l.product u
-    ∙ append_assoc (outer_steps ls) (steps_of l.sum) (postfix (joined product_of l.product u))
+    ∙ append_assoc (outer_steps ls) (steps_of l.sum) (postfix (with_left product_of l.product u))
     ∙ ap (λ (z : List NamedStep). outer_steps ls ++ z) (sym (append-nil _)))
 behind_unit_posted ls l u closing = ap (λ (z : List NamedStep). machine.after_closing z (map level_of ls)) (level_posted (outer_steps ls) l u) ∙ closing_posted ls (whole l u)
 behind_unit_posted ls l u equals = refl
@@ -132,5 +132,5 @@ from_posted (x ∷ xs) s =
     ap (option_and_then (λ n. machine.steps_from n xs)) (next_posted s.outer s.here s.unit x) ∙ then_posted xs (next_state s x) (from_posted xs)
 
 -- the machine gives the steps of the tree that is read
-pub steps_read : (xs : List Symbol) → machine.steps_from machine.initial_state xs ≡ option_map postfix (tree_from start xs)
-steps_read xs = from_posted xs start
+pub steps_read : (xs : List Symbol) → machine.steps_from machine.initial_state xs ≡ option_map postfix (tree_from initial_tree_state xs)
+steps_read xs = from_posted xs initial_tree_state

@@ -7,14 +7,14 @@ use Rattle.gadget_grammar.specs.Symbols.{Symbol, word}
 use Rattle.gadget_grammar.specs.Grammar.{Tree, spelled, expr, Derives, AreExpression, IsExpression, IsAssignment}
 use Rattle.gadget_grammar.specs.Steps.{NamedStep, postfix}
 use Rattle.gadget_grammar.specs.Machine as machine
-use Rattle.gadget_grammar.proofs.TreeReader.{tree_from, start}
+use Rattle.gadget_grammar.proofs.TreeReader.{tree_from, initial_tree_state}
 use Rattle.gadget_grammar.proofs.Complete.{tree_read}
 use Rattle.gadget_grammar.proofs.Sound.{read_sound}
 use Rattle.gadget_grammar.proofs.Posted.{steps_read}
 
 -- two trees that stand for the same symbols are the same
 pub one_tree : (s t : Tree) → Derives expr s → Derives expr t → spelled s ≡ spelled t → s ≡ t
-one_tree s t g h e = same_Some s t (sym (tree_read s g) ∙ ap (tree_from start) e ∙ tree_read t h)
+one_tree s t g h e = same_Some s t (sym (tree_read s g) ∙ ap (tree_from initial_tree_state) e ∙ tree_read t h)
 
 -- the symbols of a tree are read as its steps
 pub run_spelled : (xs : List Symbol) (t : Tree) → AreExpression xs t → machine.steps_from machine.initial_state xs ≡ Some (postfix t)
@@ -22,7 +22,7 @@ run_spelled xs t h = ap (machine.steps_from machine.initial_state) h.spells ∙ 
 
 -- steps that are read are those of a tree of the symbols
 pub run_has_tree : (xs : List Symbol) (steps : List NamedStep) → machine.steps_from machine.initial_state xs ≡ Some steps → (t : Tree) × AreExpression xs t × (steps ≡ postfix t)
-run_has_tree xs steps e = of_read (tree_from start xs) (read_sound xs) (sym (steps_read xs) ∙ e) where
+run_has_tree xs steps e = of_read (tree_from initial_tree_state xs) (read_sound xs) (sym (steps_read xs) ∙ e) where
   of_read : (o : Option Tree) → IfSome o (λ t. Derives expr t × (xs ≡ spelled t)) → option_map postfix o ≡ Some steps → (t : Tree) × AreExpression xs t × (steps ≡ postfix t)
   of_read None h f = absurd cc
   of_read (Some t) h f = (t, record { derives = h.0; spells = h.1 }, sym (same_Some (postfix t) steps f))

@@ -4,7 +4,7 @@ use Rattle.std.specs.Prelude.{option_and_then, IfSome}
 use Rattle.gadget_text.specs.Names.{is_name}
 use Rattle.gadget_grammar.specs.Symbols.{Symbol, word, equals, plus, times, opening, closing, other}
 use Rattle.gadget_grammar.specs.Grammar.{Tree, named, parens, sum_of, product_of, spelled, Rule, expr, term, unit, Derives}
-use Rattle.gadget_grammar.proofs.TreeReader.{TreeLevel, TreeState, joined, whole, next_before_unit, next_behind_unit, next_state, next_state_at, final_tree, final_tree_at, tree_from, start}
+use Rattle.gadget_grammar.proofs.TreeReader.{TreeLevel, TreeState, with_left, whole, next_before_unit, next_behind_unit, next_state, next_state_at, final_tree, final_tree_at, tree_from, initial_tree_state}
 
 -- a unit is a term
 unit_is_term : (t : Tree) → Derives unit t → Derives term t
@@ -60,13 +60,13 @@ record IsSound (s : TreeState) : Type 0 where
 
 -- a unit together with the product that waits is a term
 product_sound : (p : Option Tree) (u : Tree) → Fits term p → Derives unit u →
-    Derives term (joined product_of p u) × (spelled (joined product_of p u) ≡ side_text p times ++ spelled u)
+    Derives term (with_left product_of p u) × (spelled (with_left product_of p u) ≡ side_text p times ++ spelled u)
 product_sound None u f d = (unit_is_term u d, refl)
 product_sound (Some a) u f d = ((f, d), sym (append_assoc (spelled a) (times ∷ []) (spelled u)))
 
 -- a term together with the sum that waits is an expression
 sum_sound : (s : Option Tree) (t : Tree) → Fits expr s → Derives term t →
-    Derives expr (joined sum_of s t) × (spelled (joined sum_of s t) ≡ side_text s plus ++ spelled t)
+    Derives expr (with_left sum_of s t) × (spelled (with_left sum_of s t) ≡ side_text s plus ++ spelled t)
 sum_sound None t f d = (term_is_expr t d, refl)
 sum_sound (Some a) t f d = ((f, d), sym (append_assoc (spelled a) (plus ∷ []) (spelled t)))
 
@@ -74,7 +74,7 @@ sum_sound (Some a) t f d = ((f, d), sym (append_assoc (spelled a) (plus ∷ []) 
 whole_sound : (l : TreeLevel) (u : Tree) → FitsLevel l → Derives unit u → Derives expr (whole l u) × (spelled (whole l u) ≡ level_text l ++ spelled u)
 whole_sound l u f d =
     let a = product_sound l.product u f.1 d in
-    let b = sum_sound l.sum (joined product_of l.product u) f.0 a.0 in
+    let b = sum_sound l.sum (with_left product_of l.product u) f.0 a.0 in
     (b.0, b.1 ∙ ap (λ (z : List Symbol). side_text l.sum plus ++ z) a.1 ∙ sym (append_assoc (side_text l.sum plus) (side_text l.product times) (spelled u)))
 
 -- the next state, where there is one, is sound, and has read one symbol more
@@ -148,5 +148,5 @@ from_sound [] s g = subst (λ (z : List Symbol). Ends z (final_tree s)) (sym (ap
 from_sound (x ∷ xs) s g = then_sound xs x s (next_state s x) (next_sound s.outer s.here s.unit x g.outer g.here g.unit) (from_sound xs)
 
 -- a tree that is read is one of the symbols
-pub read_sound : (xs : List Symbol) → IfSome (tree_from start xs) (λ t. Derives expr t × (xs ≡ spelled t))
-read_sound xs = from_sound xs start (record { outer = tt; here = (tt, tt); unit = tt })
+pub read_sound : (xs : List Symbol) → IfSome (tree_from initial_tree_state xs) (λ t. Derives expr t × (xs ≡ spelled t))
+read_sound xs = from_sound xs initial_tree_state (record { outer = tt; here = (tt, tt); unit = tt })

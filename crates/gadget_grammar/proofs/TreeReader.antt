@@ -20,13 +20,13 @@ abbrev pub nothing : TreeLevel
 nothing = record { sum = None; product = None }
 
 -- a right side, with its left side where one waits
-abbrev pub joined : (Tree → Tree → Tree) → Option Tree → Tree → Tree
-joined operation None t = t
-joined operation (Some a) t = operation a t
+abbrev pub with_left : (Tree → Tree → Tree) → Option Tree → Tree → Tree
+with_left operation None t = t
+with_left operation (Some a) t = operation a t
 
 -- a unit, with all that waits at a level
 abbrev pub whole : TreeLevel → Tree → Tree
-whole level u = joined sum_of level.sum (joined product_of level.product u)
+whole level u = with_left sum_of level.sum (with_left product_of level.product u)
 
 -- what was in parentheses is a unit of the level around
 abbrev pub after_closing : Tree → List TreeLevel → Option TreeState
@@ -42,7 +42,7 @@ next_before_unit outer here symbol = None
 -- behind a unit
 abbrev pub next_behind_unit : List TreeLevel → TreeLevel → Tree → Symbol → Option TreeState
 next_behind_unit outer here u plus = Some (record { outer = outer; here = record { sum = Some (whole here u); product = None }; unit = None })
-next_behind_unit outer here u times = Some (record { outer = outer; here = record { sum = here.sum; product = Some (joined product_of here.product u) }; unit = None })
+next_behind_unit outer here u times = Some (record { outer = outer; here = record { sum = here.sum; product = Some (with_left product_of here.product u) }; unit = None })
 next_behind_unit outer here u closing = after_closing (whole here u) outer
 next_behind_unit outer here u symbol = None
 
@@ -70,5 +70,5 @@ tree_from s [] = final_tree s
 tree_from s (symbol ∷ symbols) = option_and_then (λ next. tree_from next symbols) (next_state s symbol)
 
 -- nothing is read
-abbrev pub start : TreeState
-start = record { outer = []; here = nothing; unit = None }
+abbrev pub initial_tree_state : TreeState
+initial_tree_state = record { outer = []; here = nothing; unit = None }

@@ -25,6 +25,6 @@ line_goes_on bytes h line (t ∷ ts) words rest lines header default e some kind
     ∙ ap (λ (z : List (List ℕ)). with_header line h z header >>= λ now. headers_from now (lines_in bytes rest)) (texts_behind bytes ts ∙ ap (texts_in bytes) (sym behind))
 
 -- the parts of a line that begins with a header are its first token, its words and what comes after
-pub line_parts : (own words rest all : List Token) → 0 < length own → words ≡ drop 1 own → own ++ rest ≡ all → (head : Token) × (head ∷ (words ++ rest) ≡ all)
-line_parts [] words rest all some behind e = absurd (omega (arith, some))
-line_parts (t ∷ ts) words rest all some behind e = (t, ap (λ (z : List Token). t ∷ (z ++ rest)) behind ∙ e)
+pub line_split : (own words rest all : List Token) → 0 < length own → words ≡ drop 1 own → own ++ rest ≡ all → (head : Token) × (head ∷ (words ++ rest) ≡ all)
+line_split [] words rest all some behind e = absurd (omega (arith, some))
+line_split (t ∷ ts) words rest all some behind e = (t, ap (λ (z : List Token). t ∷ (z ++ rest)) behind ∙ e)

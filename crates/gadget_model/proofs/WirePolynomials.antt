@@ -98,7 +98,7 @@ leaves-node g v (product_of a b) at names earlier m w h has =
       | inr k ↦ earlier b names.1 r.1 w r.3 k
     ]
 
--- `leaves` for the wires before n
+-- `leaves-polynomial` for the wires before n
 leaves-below : (g : Circuit) → IsInOrder g → (n v : ℕ) → v < n → (m w : ℕ) → Contains (polynomial g v) m → HasVariable m w → IsLeaf g w
 leaves-below g ordered zero v less m w h has = absurd (omega arith)
 leaves-below g ordered (suc n) v less m w h has = elim ((slice_get_cases (nodes g) v).1) [
@@ -111,5 +111,5 @@ leaves-below g ordered (suc n) v less m w h has = elim ((slice_get_cases (nodes 
 ]
 
 -- each variable of a wire's polynomial is an input share or a random
-pub leaves : (g : Circuit) → IsInOrder g → (v m w : ℕ) → Contains (polynomial g v) m → HasVariable m w → IsShare g w ⊎ IsRandom g w
-leaves g ordered v m w h has = leaves-below g ordered (suc v) v (omega arith) m w h has
+pub leaves-polynomial : (g : Circuit) → IsInOrder g → (v m w : ℕ) → Contains (polynomial g v) m → HasVariable m w → IsShare g w ⊎ IsRandom g w
+leaves-polynomial g ordered v m w h has = leaves-below g ordered (suc v) v (omega arith) m w h has

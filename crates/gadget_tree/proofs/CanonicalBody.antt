@@ -16,13 +16,10 @@ use Rattle.gadget_tree.specs.Operations.{leaves, line_parts, line_names, line_no
 use Rattle.gadget_tree.specs.File.{with_line, SaysByHeader, LinesSay}
 use Rattle.list_laws.proofs.Members.{AllPairs-append_left}
 use Rattle.gadget_tree.proofs.Names.{is_among-false, AreDistinct-middle}
+use Rattle.gadget_tree.proofs.HeaderVariables.{nodes_of}
 use Rattle.gadget_tree.proofs.CanonicalLines.{scripted_from}
 use Rattle.gadget_tree.proofs.CanonicalHeaders.{passes}
 use Rattle.gadget_tree.proofs.CanonicalOperations.{IsStep, AreSteps, AreNamed, AreFirst, operation_lexemes, operation_script, operation_tree, operation_flat, operation_assigns, operation_known, operation_node, one_part, one_name, flat}
-
--- the nodes of variables
-abbrev pub nodes_of : List Variable → List Node
-nodes_of variables = map (λ v. v.node) variables
 
 -- the variable that an operation's line makes
 abbrev made : ℕ → Variable → Variable

@@ -20,7 +20,8 @@ use Rattle.gadget_tree.proofs.Names.{test_from_distinct}
 use Rattle.gadget_tree.proofs.CanonicalHeaders.{listed_random, canonical_preamble, passes}
 use Rattle.gadget_tree.proofs.CanonicalText.{some_shares}
 use Rattle.gadget_tree.proofs.CanonicalOperations.{AreSteps, AreNamed}
-use Rattle.gadget_tree.proofs.CanonicalBody.{nodes_of, AreNames}
+use Rattle.gadget_tree.proofs.HeaderVariables.{nodes_of}
+use Rattle.gadget_tree.proofs.CanonicalBody.{AreNames}
 
 -- what is said of each variable, by its name and its node
 abbrev seen : {A : Type 0} → (List ℕ → Node → A) → List Variable → List A

@@ -12,17 +12,17 @@ use Rattle.gadget_grammar.proofs.Readings.{one_assignment}
 use Rattle.gadget_tree.specs.Variables.{header_variables}
 use Rattle.gadget_tree.specs.Operations.{line_parts, line_names}
 use Rattle.gadget_tree.specs.File.{FileSays}
-use Rattle.gadget_tree.proofs.Read.{IsRead, file_read}
+use Rattle.gadget_tree.proofs.Read.{IsFileRead, file_read}
 use Rattle.gadget_tree.proofs.HeaderVariables.{nodes-header_variables}
 use Rattle.gadget_tree.proofs.NamedVariables.{named_distinct}
 use Rattle.gadget_tree.proofs.OutputShares.{outputs_made}
 use Rattle.gadget_tree.proofs.MadeGadgets.{said_gadget}
-use Rattle.gadget_tree.proofs.LinesAmong.{assignment_behind, later_variables, IsLineOf, line_among}
+use Rattle.gadget_tree.proofs.LinesAmong.{assignment_behind, later_variables, IsLineAmong, line_among}
 use Rattle.gadget_tree.specs.Values.{HasPart}
 use Rattle.gadget_tree.proofs.NamedValues.{HasBit, first_values, line_values}
 
 -- the variables of a gadget that was read are those behind the lines
-pub read_variables : (bytes : List ℕ) (g : Circuit) (h : Preamble) (start vs : List Variable) → IsRead bytes g h start vs → g.variables ≡ vs
+pub read_variables : (bytes : List ℕ) (g : Circuit) (h : Preamble) (start vs : List Variable) → IsFileRead bytes g h start vs → g.variables ≡ vs
 read_variables bytes g h start vs read = ap (λ (c : Circuit). c.variables) (outputs_made h vs g read.outputs).0
 
 -- a file has one preamble
@@ -52,7 +52,7 @@ lines_have bytes g line name tree x r says stands assigns =
     let is = said_gadget bytes g says in
     let behind = assignment_behind (token_lines bytes) f.0 line name tree read.headers stands assigns in
     let l = line_among (f.0).lines f.1 f.2 line read.lines behind in
-    let of_gadget = subst (λ (vs : List Variable). IsLineOf line vs l.0 l.1 l.2 l.3 l.4) (sym (read_variables bytes g f.0 f.1 f.2 read)) l.5 in
+    let of_gadget = subst (λ (vs : List Variable). IsLineAmong line vs l.0 l.1 l.2 l.3 l.4) (sym (read_variables bytes g f.0 f.1 f.2 read)) l.5 in
     let line_read = of_gadget.read in
     let same = one_assignment line.lexemes l.1 name l.2 tree line_read.assigns assigns in
     let values = line_values g is.in_order is.distinct_names x r line l.0 l.1 l.2 l.3 l.4 of_gadget in

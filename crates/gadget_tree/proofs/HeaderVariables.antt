@@ -11,6 +11,7 @@ use Rattle.gadget_headers.specs.Headers.{Listed, Preamble}
 use Rattle.gadget_headers.specs.Limits.{stems_of}
 use Rattle.gadget_tree.specs.Variables.{share_name, share_names, names_of, shares_of_input, share_variables, random_variables, listed_randoms, header_variables}
 
+-- the nodes of variables
 abbrev pub nodes_of : List Variable → List Node
 nodes_of vs = map (λ v. v.node) vs
 
@@ -63,16 +64,16 @@ length-share_names n (stem ∷ stems) =
     omega arith
 
 -- a share of one of so many inputs
-abbrev pub IsShareOf : ℕ → ℕ → Node → Type 0
-IsShareOf inputs n node = (input : ℕ) × (index : ℕ) × (input < inputs) × (index < n) × (node ≡ share (16 * input + index))
+abbrev pub IsHeaderShare : ℕ → ℕ → Node → Type 0
+IsHeaderShare inputs n node = (input : ℕ) × (index : ℕ) × (input < inputs) × (index < n) × (node ≡ share (16 * input + index))
 
 -- one of so many randoms
-abbrev pub IsRandomOf : ℕ → Node → Type 0
-IsRandomOf randoms node = (k : ℕ) × (k < randoms) × (node ≡ random k)
+abbrev pub IsHeaderRandom : ℕ → Node → Type 0
+IsHeaderRandom randoms node = (k : ℕ) × (k < randoms) × (node ≡ random k)
 
 -- the node of a variable that the headers name
 abbrev pub IsHeaderNode : ℕ → ℕ → ℕ → Node → Type 0
-IsHeaderNode inputs n randoms node = IsShareOf inputs n node ⊎ IsRandomOf randoms node
+IsHeaderNode inputs n randoms node = IsHeaderShare inputs n node ⊎ IsHeaderRandom randoms node
 
 nodes-share_variables : (line n k inputs randoms : ℕ) (stems : List (List ℕ)) → k + length stems ≤ inputs → All (IsHeaderNode inputs n randoms) (nodes_of (share_variables line n k stems))
 nodes-share_variables line n k inputs randoms [] few = All-nil (IsHeaderNode inputs n randoms)

@@ -80,13 +80,13 @@ later_variables (line ∷ lines) earlier vs h =
     (made ++ l.0, l.1 ∙ ap (λ (z : List Variable). z ++ l.0) makes ∙ append_assoc earlier made l.0)
 
 -- a line that is read, between the variables before it and those behind it
-pub record IsLineOf (line : TokenLine) (vs earlier : List Variable) (name : List ℕ) (tree : Tree) (now later : List Variable) : Type 0 where
+pub record IsLineAmong (line : TokenLine) (vs earlier : List Variable) (name : List ℕ) (tree : Tree) (now later : List Variable) : Type 0 where
   pub read : IsLine earlier line name tree now
   pub all : vs ≡ now ++ later
 
 -- each line among those that are read is so
 pub line_among : (lines : List TokenLine) (start vs : List Variable) (line : TokenLine) → LinesSay start lines (Ok vs) → Contains lines line →
-    (earlier : List Variable) × (name : List ℕ) × (tree : Tree) × (now : List Variable) × (later : List Variable) × IsLineOf line vs earlier name tree now later
+    (earlier : List Variable) × (name : List ℕ) × (tree : Tree) × (now : List Variable) × (later : List Variable) × IsLineAmong line vs earlier name tree now later
 line_among [] start vs line h stands = absurd (Contains-nil line stands)
 line_among (first ∷ lines) start vs line h stands =
     let f = first_line_read start first lines vs h in

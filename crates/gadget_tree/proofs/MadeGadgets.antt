@@ -19,9 +19,9 @@ use Rattle.gadget_tree.specs.File.{named_variables, flat_gadget, FileSays}
 use Rattle.gadget_tree.proofs.Names.{test_from_distinct}
 use Rattle.gadget_tree.proofs.Read.{file_read}
 use Rattle.gadget_tree.proofs.Numbered.{AllFrom-get_or}
-use Rattle.gadget_tree.proofs.Nodes.{AreByName}
+use Rattle.gadget_tree.proofs.Nodes.{AllNameEarlier}
 use Rattle.gadget_tree.proofs.HeaderVariables.{nodes_of, line_of_randoms, header_variables-parts, names_of-header_variables, length-share_names, IsHeaderNode, nodes-header_variables}
-use Rattle.gadget_tree.proofs.NamedVariables.{AreNamed, named_distinct}
+use Rattle.gadget_tree.proofs.NamedVariables.{AreOfHeaders, named_distinct}
 use Rattle.gadget_tree.proofs.Prefixes.{IsPrefix, lines_prefix}
 use Rattle.gadget_tree.proofs.OutputShares.{outputs_made, places_exist, places_named, places_apart}
 
@@ -44,13 +44,13 @@ operation_numbered g (sum_of a b) h = tt
 operation_numbered g (product_of a b) h = tt
 
 -- nodes that may stand anywhere stand in order
-anywhere_in_order : (randoms n : ℕ) (vs : List Node) → All (λ v. (k : ℕ) → NamesEarlier randoms k v) vs → AreByName randoms n vs
+anywhere_in_order : (randoms n : ℕ) (vs : List Node) → All (λ v. (k : ℕ) → NamesEarlier randoms k v) vs → AllNameEarlier randoms n vs
 anywhere_in_order randoms n [] h = tt
 anywhere_in_order randoms n (v ∷ vs) h =
     (All-head (λ v. (k : ℕ) → NamesEarlier randoms k v) v vs h n, anywhere_in_order randoms (n + 1) vs (All-tail (λ v. (k : ℕ) → NamesEarlier randoms k v) v vs h))
 
 -- each node names earlier ones, where they stand in order from the first on
-from_first : (randoms : ℕ) (vs : List Node) → AreByName randoms 0 vs → (k : ℕ) (d : Node) → k < length vs → NamesEarlier randoms k (get_or vs k d)
+from_first : (randoms : ℕ) (vs : List Node) → AllNameEarlier randoms 0 vs → (k : ℕ) (d : Node) → k < length vs → NamesEarlier randoms k (get_or vs k d)
 from_first randoms vs h k d l = subst (λ m. NamesEarlier randoms m (get_or vs k d)) (let e : 0 + k ≡ k = omega arith in e) (AllFrom-get_or (NamesEarlier randoms) 0 vs h k d l)
 
 module _ (h : Preamble) (limits : KeepsLimits h) where
@@ -59,7 +59,7 @@ module _ (h : Preamble) (limits : KeepsLimits h) where
   randoms = length (stems_of h.randoms)
 
   -- the variables of the headers
-  pub header_prefix : (start : List Variable) → AreNamed h start → IsPrefix randoms (header_variables h) start
+  pub header_prefix : (start : List Variable) → AreOfHeaders h start → IsPrefix randoms (header_variables h) start
   header_prefix start named =
       let shares = share_names h.shares h.inputs.stems in
       let header = nodes-header_variables h in
@@ -94,7 +94,7 @@ module _ (h : Preamble) (limits : KeepsLimits h) where
       (All-map P (λ (v : Variable). v.node) operations (All-weaker IsOperation (λ v. P v.node) (λ v o. operation_numbered (flat_gadget h vs) v.node o.node) operations are)))
 
   -- the gadget that the variables make
-  made : (start vs : List Variable) → AreNamed h start → IsPrefix randoms (header_variables h) vs → list_all (is_among (names_of vs)) (share_names h.shares h.outputs.stems) ≡ true → IsGadget (flat_gadget h vs)
+  made : (start vs : List Variable) → AreOfHeaders h start → IsPrefix randoms (header_variables h) vs → list_all (is_among (names_of vs)) (share_names h.shares h.outputs.stems) ≡ true → IsGadget (flat_gadget h vs)
   made start vs named p all =
       let g = flat_gadget h vs in
       let outputs = share_names h.shares h.outputs.stems in

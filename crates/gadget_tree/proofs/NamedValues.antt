@@ -16,7 +16,7 @@ use Rattle.gadget_tree.proofs.Names.{length-names_of}
 use Rattle.gadget_tree.proofs.NamePlaces.{place_of-append_left, distinct_places}
 use Rattle.gadget_tree.proofs.HeaderVariables.{nodes_of, IsHeaderNode}
 use Rattle.gadget_tree.proofs.MadeLines.{length-line_names, names_behind}
-use Rattle.gadget_tree.proofs.LinesAmong.{IsLineOf}
+use Rattle.gadget_tree.proofs.LinesAmong.{IsLineAmong}
 use Rattle.gadget_tree.proofs.Numbered.{AllFrom, AllFrom-from_get_or, AllFrom-append_left, AllFrom-middle, AllZip-numbered}
 use Rattle.gadget_tree.proofs.TreeValues.{HasNode, HasTree, part_values}
 
@@ -61,7 +61,7 @@ module _ (g : Circuit) (in_order : IsInOrder g) (distinct : AreDistinct (names_o
       (AllFrom-append_left IsPlace 0 (names_of front) (names_of later) (subst (AllFrom IsPlace 0) names (distinct_places (names_of g.variables) distinct)))
       (AllFrom-append_left (HasNode x r (value g x r)) 0 (nodes_of front) (nodes_of later) (subst (AllFrom (HasNode x r (value g x r)) 0) vs all_nodes))
 
-  module _ (line : TokenLine) (earlier : List Variable) (name : List ℕ) (tree : Tree) (now later : List Variable) (l : IsLineOf line g.variables earlier name tree now later) where
+  module _ (line : TokenLine) (earlier : List Variable) (name : List ℕ) (tree : Tree) (now later : List Variable) (l : IsLineAmong line g.variables earlier name tree now later) where
     -- the names and the nodes before the line, of it, and behind it
     name_parts : names_of g.variables ≡ names_of earlier ++ line_names name tree ++ names_of later
     name_parts =

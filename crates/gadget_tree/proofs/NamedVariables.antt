@@ -14,7 +14,7 @@ use Rattle.gadget_tree.specs.File.{distinct_shares, distinct_randoms, named_vari
 use Rattle.gadget_tree.proofs.Names.{distinct_from_test, fresh_between}
 
 -- the variables are those of the headers, and all names of the headers differ
-pub record AreNamed (h : Preamble) (start : List Variable) : Type 0 where
+pub record AreOfHeaders (h : Preamble) (start : List Variable) : Type 0 where
   pub variables : start ≡ header_variables h
   pub distinct : AreDistinct (share_names h.shares h.inputs.stems ++ stems_of h.randoms ++ share_names h.shares h.outputs.stems)
 
@@ -31,7 +31,7 @@ with_randoms names now None e = append-nil names ∙ (let f : names ≡ now = cc
 with_randoms names now (Some listed) e = (with_more names listed.stems now listed.line e).1
 
 -- so it is where no header offends
-pub named_distinct : (h : Preamble) (start : List Variable) → named_variables h ≡ Ok start → AreNamed h start
+pub named_distinct : (h : Preamble) (start : List Variable) → named_variables h ≡ Ok start → AreOfHeaders h start
 named_distinct h start e =
     let inputs = share_names h.shares h.inputs.stems in
     let outputs = share_names h.shares h.outputs.stems in

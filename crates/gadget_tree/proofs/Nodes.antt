@@ -5,7 +5,7 @@ use Rattle.std.specs.List.{list_all}
 use Rattle.std.proofs.lemmas.Bool.{and_parts}
 use Rattle.std.proofs.lemmas.List.Elements.{All-append, All-cons, All-nil, All-push}
 use Rattle.std.proofs.lemmas.List.Folds.{list_all-append}
-use Rattle.gadget_model.specs.Circuit.{Node, NamesEarlier, Variable}
+use Rattle.gadget_model.specs.Circuit.{Node, NamesEarlier}
 use Rattle.gadget_model.specs.Circuit as node
 use Rattle.gadget_grammar.specs.Grammar.{Tree, named, parens, sum_of, product_of}
 use Rattle.gadget_tree.specs.Variables.{is_among, place_of}
@@ -15,8 +15,8 @@ use Rattle.gadget_tree.proofs.Names.{place_below}
 use Rattle.gadget_tree.proofs.Numbered.{AllFrom, AllFrom-append}
 
 -- nodes from number n on, each of which names earlier ones
-abbrev pub AreByName : ℕ → ℕ → List Node → Type 0
-AreByName randoms n vs = AllFrom (NamesEarlier randoms) n vs
+abbrev pub AllNameEarlier : ℕ → ℕ → List Node → Type 0
+AllNameEarlier randoms n vs = AllFrom (NamesEarlier randoms) n vs
 
 -- a tree has a node for each of its operations
 pub length-operation_nodes : (look : List ℕ → ℕ) (base : ℕ) (t : Tree) → length (operation_nodes look base t) ≡ length (operations t)
@@ -84,10 +84,10 @@ module _ (randoms : ℕ) (names : List (List ℕ)) where
   top_below base (product_of a b) few e = omega (arith, length-append (operations a ++ operations b) (product_of a b ∷ []), length-append (operations a) (operations b))
 
   -- an operation behind those of both sides
-  both_in_order : (base : ℕ) (a b : Tree) (v : Node) → AreByName randoms base (operation_nodes (place_of names) base a) →
-      AreByName randoms (base + length (operations a)) (operation_nodes (place_of names) (base + length (operations a)) b) →
+  both_in_order : (base : ℕ) (a b : Tree) (v : Node) → AllNameEarlier randoms base (operation_nodes (place_of names) base a) →
+      AllNameEarlier randoms (base + length (operations a)) (operation_nodes (place_of names) (base + length (operations a)) b) →
       NamesEarlier randoms (base + length (operations a) + length (operations b)) v →
-      AreByName randoms base (operation_nodes (place_of names) base a ++ operation_nodes (place_of names) (base + length (operations a)) b ++ v ∷ [])
+      AllNameEarlier randoms base (operation_nodes (place_of names) base a ++ operation_nodes (place_of names) (base + length (operations a)) b ++ v ∷ [])
   both_in_order base a b v h k last =
       let look = place_of names in
       let m = base + length (operations a) in
@@ -98,11 +98,11 @@ module _ (randoms : ℕ) (names : List (List ℕ)) where
       let behind : m ≡ base + length xs = omega arith in
       let at : base + length (operations a) + length (operations b) ≡ base + length (xs ++ ys) = omega (arith, length-append xs ys) in
       AllFrom-append (NamesEarlier randoms) base (xs ++ ys) (v ∷ [])
-      (AllFrom-append (NamesEarlier randoms) base xs ys h (subst (λ n. AreByName randoms n ys) behind k))
+      (AllFrom-append (NamesEarlier randoms) base xs ys h (subst (λ n. AllNameEarlier randoms n ys) behind k))
       (subst (λ n. NamesEarlier randoms n v) at last, tt)
 
   -- the nodes of a tree stand in order
-  tree_in_order : (base : ℕ) (t : Tree) → length names ≤ base → list_all (is_among names) (leaves t) ≡ true → AreByName randoms base (operation_nodes (place_of names) base t)
+  tree_in_order : (base : ℕ) (t : Tree) → length names ≤ base → list_all (is_among names) (leaves t) ≡ true → AllNameEarlier randoms base (operation_nodes (place_of names) base t)
   tree_in_order base (named name) few e = tt
   tree_in_order base (parens t) few e = tree_in_order base t few e
   tree_in_order base (sum_of a b) few e =
@@ -120,12 +120,12 @@ module _ (randoms : ℕ) (names : List (List ℕ)) where
       both_in_order base a b (node.product_of (top (place_of names) base a) (top (place_of names) m b)) (tree_in_order base a few s.0) (tree_in_order m b (omega arith) s.1)
       (omega arith, omega arith)
 
-  copy_in_order : (base a : ℕ) (vs : List Node) → a < base + length vs → AreByName randoms base vs → AreByName randoms base (or_copy a vs)
+  copy_in_order : (base a : ℕ) (vs : List Node) → a < base + length vs → AllNameEarlier randoms base vs → AllNameEarlier randoms base (or_copy a vs)
   copy_in_order base a [] l h = (omega arith, tt)
   copy_in_order base a (v ∷ vs) l h = h
 
   -- the nodes of a line stand in order
-  pub line_in_order : (t : Tree) → list_all (is_among names) (leaves t) ≡ true → AreByName randoms (length names) (line_nodes (place_of names) (length names) t)
+  pub line_in_order : (t : Tree) → list_all (is_among names) (leaves t) ≡ true → AllNameEarlier randoms (length names) (line_nodes (place_of names) (length names) t)
   line_in_order t e =
       let base = length names in
       let l = top_below base t (omega arith) e in

@@ -19,7 +19,7 @@ use Rattle.gadget_tree.specs.File.{LinesSay}
 use Rattle.gadget_tree.proofs.Names.{contains_among, length-names_of}
 use Rattle.gadget_tree.proofs.InnerNames.{names_apart, all_are_names}
 use Rattle.gadget_tree.proofs.Numbered.{AllFrom-append}
-use Rattle.gadget_tree.proofs.Nodes.{AreByName, line_nodes_are, line_in_order}
+use Rattle.gadget_tree.proofs.Nodes.{AllNameEarlier, line_nodes_are, line_in_order}
 use Rattle.gadget_tree.proofs.HeaderVariables.{nodes_of}
 use Rattle.gadget_tree.proofs.MadeLines.{IsLine, first_line_read, names_behind, length_behind}
 
@@ -28,7 +28,7 @@ use Rattle.gadget_tree.proofs.MadeLines.{IsLine, first_line_read, names_behind, 
 pub record IsPrefix (randoms : ℕ) (start vs : List Variable) : Type 0 where
   pub few : length vs ≤ most_variables
   pub distinct : AreDistinct (names_of vs)
-  pub in_order : AreByName randoms 0 (nodes_of vs)
+  pub in_order : AllNameEarlier randoms 0 (nodes_of vs)
   pub operations : (operations : List Variable) × (vs ≡ start ++ operations) × All IsOperation operations
 
 -- variables that a line makes are operations under names, where its names and nodes are
@@ -52,13 +52,13 @@ apart names (name ∷ more) e a b h k =
 
 -- the nodes of a line stand in order behind the earlier ones
 line_order : (randoms : ℕ) (earlier : List Variable) (tree : Tree) → list_all (is_among (names_of earlier)) (leaves tree) ≡ true →
-    AreByName randoms (0 + length (nodes_of earlier)) (line_nodes (place_of (names_of earlier)) (length earlier) tree)
+    AllNameEarlier randoms (0 + length (nodes_of earlier)) (line_nodes (place_of (names_of earlier)) (length earlier) tree)
 line_order randoms earlier tree known =
     let names = names_of earlier in
     let new = line_nodes (place_of names) (length earlier) tree in
     let m = length-map earlier (λ (v : Variable). v.node) in
     let e : length earlier ≡ 0 + length (nodes_of earlier) = omega arith in
-    subst (λ k. AreByName randoms k new) e (subst (λ k. AreByName randoms k (line_nodes (place_of names) k tree)) (length-names_of earlier) (line_in_order randoms names tree known))
+    subst (λ k. AllNameEarlier randoms k new) e (subst (λ k. AllNameEarlier randoms k (line_nodes (place_of names) k tree)) (length-names_of earlier) (line_in_order randoms names tree known))
 
 -- one line more
 prefix_more : (randoms : ℕ) (start earlier : List Variable) (line : TokenLine) (name : List ℕ) (tree : Tree) (now : List Variable) → IsLine earlier line name tree now → IsPrefix randoms start earlier → IsPrefix randoms start now
@@ -76,7 +76,7 @@ prefix_more randoms start earlier line name tree now l p =
       few = omega arith;
       distinct = subst AreDistinct (sym behind.0)
           (AllPairs-append (λ a b. a ≢ b) names (line_names name tree) p.distinct (names_apart name (length (line_parts tree) - 1) small) (apart names (line_names name tree) l.new));
-      in_order = subst (AreByName randoms 0) (sym behind.1) (AllFrom-append (NamesEarlier randoms) 0 (nodes_of earlier) new p.in_order (line_order randoms earlier tree l.known));
+      in_order = subst (AllNameEarlier randoms 0) (sym behind.1) (AllFrom-append (NamesEarlier randoms) 0 (nodes_of earlier) new p.in_order (line_order randoms earlier tree l.known));
       operations = (
         p.operations.0 ++ made,
         l.makes ∙ ap (λ (z : List Variable). z ++ made) p.operations.1 ∙ append_assoc start p.operations.0 made,

@@ -13,7 +13,7 @@ use Rattle.gadget_tree.specs.File.{file_headers, named_variables, Follows, Lines
 use Rattle.gadget_tree.proofs.Follows.{follows_ok}
 
 -- what was said on the way to a gadget: the headers, the variables that they name, all variables behind the lines, and the gadget
-pub record IsRead (bytes : List ℕ) (g : Circuit) (h : Preamble) (start variables : List Variable) : Type 0 where
+pub record IsFileRead (bytes : List ℕ) (g : Circuit) (h : Preamble) (start variables : List Variable) : Type 0 where
   pub headers : preamble_of (token_lines bytes) ≡ Ok h
   pub names : named_variables h ≡ Ok start
   pub lines : LinesSay start h.lines (Ok variables)
@@ -29,7 +29,7 @@ headers_ok bytes None h e = e
 headers_ok bytes (Some line) h e = absurd cc
 
 -- a file that is read has said all that
-pub file_read : (bytes : List ℕ) (g : Circuit) → FileSays bytes (Ok g) → (h : Preamble) × (start : List Variable) × (variables : List Variable) × IsRead bytes g h start variables
+pub file_read : (bytes : List ℕ) (g : Circuit) → FileSays bytes (Ok g) → (h : Preamble) × (start : List Variable) × (variables : List Variable) × IsFileRead bytes g h start variables
 unfolding FileSays
 file_read bytes g says =
     let r : Result Circuit FileError = Ok g in

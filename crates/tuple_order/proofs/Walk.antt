@@ -18,22 +18,22 @@ next_tuple items size t =
     option_or (next_of_size items t) (cond (ltb (length t) size) (first_of_size (suc (length t)) items 0) None)
 
 -- steps from a start give exactly the list, and end with it
-abbrev pub Follows : (List ℕ → Option (List ℕ)) → Option (List ℕ) → List (List ℕ) → Type 0
-Follows next start [] = start ≡ None
-Follows next start (t ∷ ts) = (start ≡ Some t) × Follows next (next t) ts
+abbrev pub GoesThrough : (List ℕ → Option (List ℕ)) → Option (List ℕ) → List (List ℕ) → Type 0
+GoesThrough next start [] = start ≡ None
+GoesThrough next start (t ∷ ts) = (start ≡ Some t) × GoesThrough next (next t) ts
 
 -- steps with a number put in front, and then on into another list
 front : (high low size : ℕ) (start : Option (List ℕ)) (ts rest : List (List ℕ)) (after : Option (List ℕ)) →
     ((t : List ℕ) → Contains ts t → length t ≡ size) →
     (cond (ltb (suc low + size) high) (Some (numbers_from (suc low) (suc size))) None ≡ after) →
-    Follows (next_of_size high) start ts → Follows (next_of_size high) after rest →
-    Follows (next_of_size high) (option_or (option_map (λ t. low ∷ t) start) after) (map (λ t. low ∷ t) ts ++ rest)
+    GoesThrough (next_of_size high) start ts → GoesThrough (next_of_size high) after rest →
+    GoesThrough (next_of_size high) (option_or (option_map (λ t. low ∷ t) start) after) (map (λ t. low ∷ t) ts ++ rest)
 front high low size start [] rest after sizes last h k =
-    let P : Option (List ℕ) → Type 0 = λ s. Follows (next_of_size high) (option_or (option_map (λ t. low ∷ t) s) after) rest in subst P (sym h) k
+    let P : Option (List ℕ) → Type 0 = λ s. GoesThrough (next_of_size high) (option_or (option_map (λ t. low ∷ t) s) after) rest in subst P (sym h) k
 front high low size start (t ∷ ts) rest after sizes last h k =
     let e : cond (ltb (suc low + length t) high) (Some (numbers_from (suc low) (suc (length t)))) None ≡ after =
     ap (λ (n : ℕ). cond (ltb (suc low + n) high) (Some (numbers_from (suc low) (suc n))) None) (sizes t (Contains-cons_head t ts)) ∙ last in
-    let P : Option (List ℕ) → Type 0 = λ s. Follows (next_of_size high) s (map (λ t. low ∷ t) ts ++ rest) in (
+    let P : Option (List ℕ) → Type 0 = λ s. GoesThrough (next_of_size high) s (map (λ t. low ∷ t) ts ++ rest) in (
       ap (λ (s : Option (List ℕ)). option_or (option_map (λ t. low ∷ t) s) after) h.0,
       subst P (ap (option_or (option_map (λ t. low ∷ t) (next_of_size high t))) (sym e))
           (front high low size (next_of_size high t) ts rest after (λ u g. sizes u (Contains-cons_tail t ts u g)) last h.1 k),
@@ -46,13 +46,13 @@ first_of_size-none size room low l = ap (λ (b : Bool). cond b None (Some (numbe
 pub first_of_size-some : (size room low : ℕ) → size ≤ room → first_of_size size room low ≡ Some (numbers_from low size)
 first_of_size-some size room low l = ap (λ (b : Bool). cond b None (Some (numbers_from low size))) (le-ltb room size l)
 
-walk_of_size : (size room low : ℕ) → Follows (next_of_size (low + room)) (first_of_size size room low) (rising size room low)
+walk_of_size : (size room low : ℕ) → GoesThrough (next_of_size (low + room)) (first_of_size size room low) (rising size room low)
 walk_of_size zero room low = (first_of_size-some 0 room low (omega arith), refl)
 walk_of_size (suc size) zero low = first_of_size-none (suc size) 0 low (omega arith)
 walk_of_size (suc size) (suc room) low =
     let z : suc low + room ≡ low + suc room = omega arith in
-    let P : ℕ → Type 0 = λ h. Follows (next_of_size h) (first_of_size size room (suc low)) (rising size room (suc low)) in
-    let Q : ℕ → Type 0 = λ h. Follows (next_of_size h) (first_of_size (suc size) room (suc low)) (rising (suc size) room (suc low)) in
+    let P : ℕ → Type 0 = λ h. GoesThrough (next_of_size h) (first_of_size size room (suc low)) (rising size room (suc low)) in
+    let Q : ℕ → Type 0 = λ h. GoesThrough (next_of_size h) (first_of_size (suc size) room (suc low)) (rising (suc size) room (suc low)) in
     let last : cond (ltb (suc low + size) (low + suc room)) (Some (numbers_from (suc low) (suc size))) None ≡ first_of_size (suc size) room (suc low) = elim (cases_lt room (suc size)) [
       | inl less ↦ ap (λ (b : Bool). cond b (Some (numbers_from (suc low) (suc size))) None) (le-ltb (suc low + size) (low + suc room) (omega arith))
           ∙ sym (first_of_size-none (suc size) room (suc low) less)
@@ -69,25 +69,25 @@ walk_of_size (suc size) (suc room) low =
           ap (λ (s : Option (List ℕ)). option_or (option_map (λ t. low ∷ t) s) after) (first_of_size-some size room (suc low) most)
           ∙ sym (first_of_size-some (suc size) (suc room) low (omega arith))
     ] in
-    let R : Option (List ℕ) → Type 0 = λ s. Follows (next_of_size (low + suc room)) s (rising (suc size) (suc room) low) in
+    let R : Option (List ℕ) → Type 0 = λ s. GoesThrough (next_of_size (low + suc room)) s (rising (suc size) (suc room) low) in
     subst R start
     (front (low + suc room) low size (first_of_size size room (suc low)) (rising size room (suc low)) (rising (suc size) room (suc low)) after
     (λ t g. (IsRisingOfSize-from_member size room (suc low) t g).0) last (subst P z (walk_of_size size room (suc low))) (subst Q z (walk_of_size (suc size) room (suc low))))
 
 follows_same : (next next' : List ℕ → Option (List ℕ)) (start : Option (List ℕ)) (ts : List (List ℕ)) → ((t : List ℕ) → Contains ts t → next t ≡ next' t) →
-    Follows next start ts → Follows next' start ts
+    GoesThrough next start ts → GoesThrough next' start ts
 follows_same next next' start [] e h = h
 follows_same next next' start (t ∷ ts) e h =
-    let P : Option (List ℕ) → Type 0 = λ s. Follows next' s ts in
+    let P : Option (List ℕ) → Type 0 = λ s. GoesThrough next' s ts in
     (h.0, subst P (e t (Contains-cons_head t ts)) (follows_same next next' (next t) ts (λ u g. e u (Contains-cons_tail t ts u g)) h.1))
 
 -- steps of one kind, and then on into another list
 graft : (next next' : List ℕ → Option (List ℕ)) (start after : Option (List ℕ)) (ts rest : List (List ℕ)) →
     ((t : List ℕ) → Contains ts t → next' t ≡ option_or (next t) after) →
-    Follows next start ts → Follows next' after rest → Follows next' (option_or start after) (ts ++ rest)
-graft next next' start after [] rest e h k = let P : Option (List ℕ) → Type 0 = λ s. Follows next' (option_or s after) rest in subst P (sym h) k
+    GoesThrough next start ts → GoesThrough next' after rest → GoesThrough next' (option_or start after) (ts ++ rest)
+graft next next' start after [] rest e h k = let P : Option (List ℕ) → Type 0 = λ s. GoesThrough next' (option_or s after) rest in subst P (sym h) k
 graft next next' start after (t ∷ ts) rest e h k =
-    let P : Option (List ℕ) → Type 0 = λ s. Follows next' s (ts ++ rest) in (
+    let P : Option (List ℕ) → Type 0 = λ s. GoesThrough next' s (ts ++ rest) in (
       ap (λ (s : Option (List ℕ)). option_or s after) h.0,
       subst P (sym (e t (Contains-cons_head t ts))) (graft next next' (next t) after ts rest (λ u g. e u (Contains-cons_tail t ts u g)) h.1 k),
     )
@@ -135,11 +135,11 @@ next_tuple-more items size t l =
           ∙ ap (λ (n : ℕ). option_or (next_of_size items t) (first_of_size (suc n) items 0)) e
     ])
 
-pub walk : (items size : ℕ) → Follows (next_tuple items size) (Some []) (tuples items size)
+pub walk : (items size : ℕ) → GoesThrough (next_tuple items size) (Some []) (tuples items size)
 walk items zero = (refl, refl)
 walk items (suc size) =
     let z : 0 + items ≡ items = omega arith in
-    let P : ℕ → Type 0 = λ h. Follows (next_of_size h) (first_of_size (suc size) items 0) (rising (suc size) items 0) in
+    let P : ℕ → Type 0 = λ h. GoesThrough (next_of_size h) (first_of_size (suc size) items 0) (rising (suc size) items 0) in
     graft (next_tuple items size) (next_tuple items (suc size)) (Some []) (first_of_size (suc size) items 0) (tuples items size) (rising (suc size) items 0)
     (λ t h. next_tuple-more items size t (IsTuple-from_member items size t h).short) (walk items size)
     (follows_same (next_of_size items) (next_tuple items (suc size)) (first_of_size (suc size) items 0) (rising (suc size) items 0)
@@ -147,7 +147,7 @@ walk items (suc size) =
     (subst P z (walk_of_size (suc size) items 0)))
 
 -- in steps that give a list, each element is followed by the next one
-follows_at : (next : List ℕ → Option (List ℕ)) (start : Option (List ℕ)) (ts : List (List ℕ)) (rank : ℕ) (t : List ℕ) → Follows next start ts →
+follows_at : (next : List ℕ → Option (List ℕ)) (start : Option (List ℕ)) (ts : List (List ℕ)) (rank : ℕ) (t : List ℕ) → GoesThrough next start ts →
     slice_get ts rank ≡ Some t → slice_get ts (suc rank) ≡ next t
 follows_at next start [] rank t h e = cc
 follows_at next start (u ∷ []) zero t h e = let same : u ≡ t = cc in sym (ap next (sym same) ∙ h.1)

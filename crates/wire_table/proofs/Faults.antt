@@ -16,7 +16,7 @@ use Rattle.list_laws.proofs.Once.{length-same}
 use Rattle.gadget_model.specs.Circuit.{Circuit, Node, Variable, share, random, copy, sum_of, product_of}
 use Rattle.gadget_model.specs.Polynomials.{HasVariable, polynomial}
 use Rattle.gadget_model.specs.Classes.{IsShare, IsRandom, MultipliesRandom, HasThreeShares, HasRandomProduct, HasDegreeAboveTwo, IsTooWide, random_product, degree, HasFault, IsFit}
-use Rattle.gadget_model.proofs.WirePolynomials.{once-polynomial, leaves}
+use Rattle.gadget_model.proofs.WirePolynomials.{once-polynomial, leaves-polynomial}
 use Rattle.gadget_tree.specs.declared.var.Var.{Var}
 use Rattle.gadget_tree.specs.Gadgets.{IsGadget}
 use Rattle.gadget_tree.specs.Seen.{variable_of, variables_of}
@@ -193,7 +193,7 @@ not_too_wide g v p same few wide = let e = length-same p (polynomial g v) same.o
 
 -- the polynomial of a variable is over leaves
 pub HasLeaves-polynomial : (g : Circuit) → IsGadget g → (v : ℕ) (p : List ℕ) → IsSetOf (polynomial g v) p → HasLeaves g p
-HasLeaves-polynomial g good v p same m w among has = leaves g good.in_order v m w ((same.same m).0 among) has
+HasLeaves-polynomial g good v p same m w among has = leaves-polynomial g good.in_order v m w ((same.same m).0 among) has
 
 leaf_within : (g : Circuit) (v : ℕ) → IsShare g v ⊎ IsRandom g v → v < length g.variables
 leaf_within g v (inl (k, at)) = variable_within g v (share k) at

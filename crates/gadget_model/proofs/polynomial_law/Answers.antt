@@ -1,4 +1,4 @@
-use Rattle.gadget_model.proofs.WirePolynomials.{once-polynomial, leaves}
+use Rattle.gadget_model.proofs.WirePolynomials.{once-polynomial, leaves-polynomial}
 use Rattle.gadget_model.proofs.PolynomialValues.{value-polynomial}
 use Rattle.gadget_model.proofs.polynomial_law.Goals as goal
 
@@ -9,4 +9,4 @@ pub returns-clause-once : goal.returns-clause-once
 returns-clause-once c = once-polynomial
 
 pub returns-clause-leaves : goal.returns-clause-leaves
-returns-clause-leaves c = leaves
+returns-clause-leaves c = leaves-polynomial

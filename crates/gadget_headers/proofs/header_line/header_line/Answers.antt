@@ -1,7 +1,7 @@
 use Rattle.gadget_text.specs.declared.token.Header.TheVariants.{Profile}
 use Rattle.gadget_text.specs.declared.token.TokenKind.TheVariants.{Head}
 use Rattle.gadget_text.specs.Places.{lines_in}
-use Rattle.gadget_headers.proofs.HeaderLines.{line_goes_on, line_parts}
+use Rattle.gadget_headers.proofs.HeaderLines.{line_goes_on, line_split}
 use Rattle.gadget_headers.proofs.header_line.header_line.Goals as goal
 
 pub returns-clause-goes_on : goal.returns-clause-goes_on
@@ -11,4 +11,4 @@ returns-clause-goes_on c bytes h =
 
 pub returns-clause-parts : goal.returns-clause-parts
 returns-clause-parts c =
-    line_parts c.in_ok-line.line.tokens.now c.behind_first.result.now c.in_ok-line.line.rest.now c.args.tokens.now c.in_ok-line.ensures.some c.behind_first.ensures c.in_ok-line.ensures.parts
+    line_split c.in_ok-line.line.tokens.now c.behind_first.result.now c.in_ok-line.line.rest.now c.args.tokens.now c.in_ok-line.ensures.some c.behind_first.ensures c.in_ok-line.ensures.parts
