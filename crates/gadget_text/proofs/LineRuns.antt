@@ -36,9 +36,6 @@ lines_behind number line at (piece ∷ pieces) l =
     (placed_of line at (line_segments (without_return piece))) (lines_behind number (line + 1) (at + length piece + 1) pieces (omega (arith, l)))
 
 -- the first run begins with the first token
-FirstRun : Token → List Token → Type 0
-FirstRun t ts = (us : List Token) × (runs : List (List Token)) × (runs_by_line (t ∷ ts) ≡ (t ∷ us) ∷ runs)
-
 first_by_cases : (same : Bool) (t u : Token) (us : List Token) (runs : List (List Token)) → (vs : List Token) × (more : List (List Token)) × (cond same ((t ∷ u ∷ us) ∷ runs) ((t ∷ []) ∷ (u ∷ us) ∷ runs) ≡ (t ∷ vs) ∷ more)
 first_by_cases true t u us runs = (u ∷ us, runs, refl)
 first_by_cases false t u us runs = ([], (u ∷ us) ∷ runs, refl)
