@@ -9,7 +9,7 @@ use Rattle.std.proofs.lemmas.Bool.{cases_lt, cases_eq, false≢true}
 use Rattle.std.proofs.Math.Nat.{mul-le-mul_right}
 use Rattle.std.specs.declared.cmp.Ordering.TheVariants.{Less, Equal, Greater}
 use Rattle.std.proofs.lemmas.List.Elements.{All-tail}
-use Rattle.anf.specs.Keys.{key_of, variable_of, variables_of, IsKey, HaveKey}
+use Rattle.anf.specs.Keys.{key_of, variable_of_digit, variables_of_key, IsKey, HaveKey}
 
 -- a number of four digits gives its digits back
 four_digits : (a b c d n : ℕ) → a < 2 ^ 32 → b < 2 ^ 32 → c < 2 ^ 32 → d < 2 ^ 32 → n ≡ a * 2 ^ 96 + b * 2 ^ 64 + c * 2 ^ 32 + d →
@@ -17,11 +17,11 @@ four_digits : (a b c d n : ℕ) → a < 2 ^ 32 → b < 2 ^ 32 → c < 2 ^ 32 →
 four_digits a b c d n la lb lc ld e = (omega arith, omega arith, omega arith, omega arith)
 
 -- so it has a variable for each digit above 0
-variables_of-digits : (a b c d n : ℕ) → a < 2 ^ 32 → b < 2 ^ 32 → c < 2 ^ 32 → d < 2 ^ 32 → n ≡ a * 2 ^ 96 + b * 2 ^ 64 + c * 2 ^ 32 + d →
-    variables_of n ≡ variable_of a ++ variable_of b ++ variable_of c ++ variable_of d
-variables_of-digits a b c d n la lb lc ld e =
+variables_of_key-digits : (a b c d n : ℕ) → a < 2 ^ 32 → b < 2 ^ 32 → c < 2 ^ 32 → d < 2 ^ 32 → n ≡ a * 2 ^ 96 + b * 2 ^ 64 + c * 2 ^ 32 + d →
+    variables_of_key n ≡ variable_of_digit a ++ variable_of_digit b ++ variable_of_digit c ++ variable_of_digit d
+variables_of_key-digits a b c d n la lb lc ld e =
     let r = four_digits a b c d n la lb lc ld e in
-    let f : ℕ → ℕ → ℕ → ℕ → List ℕ = λ a b c d. variable_of a ++ variable_of b ++ variable_of c ++ variable_of d in
+    let f : ℕ → ℕ → ℕ → ℕ → List ℕ = λ a b c d. variable_of_digit a ++ variable_of_digit b ++ variable_of_digit c ++ variable_of_digit d in
     ap (λ (z : ℕ). f z (n / 2 ^ 64 % 2 ^ 32) (n / 2 ^ 32 % 2 ^ 32) (n % 2 ^ 32)) r.0
     ∙ ap (λ (z : ℕ). f a z (n / 2 ^ 32 % 2 ^ 32) (n % 2 ^ 32)) r.1
     ∙ ap (λ (z : ℕ). f a b z (n % 2 ^ 32)) r.2
@@ -32,41 +32,41 @@ abbrev AreFit : List ℕ → Type 0
 AreFit vs = All (λ v. v < 2 ^ 16) vs
 
 -- the variables with the key of some variables are these
-pub variables_of-key : (vs : List ℕ) → length vs ≤ 4 → AreFit vs → variables_of (key_of vs) ≡ vs
-variables_of-key [] few fit = variables_of-digits 0 0 0 0 0 (omega arith) (omega arith) (omega arith) (omega arith) refl
-variables_of-key (a ∷ []) few fit =
+pub variables_of_key-key : (vs : List ℕ) → length vs ≤ 4 → AreFit vs → variables_of_key (key_of vs) ≡ vs
+variables_of_key-key [] few fit = variables_of_key-digits 0 0 0 0 0 (omega arith) (omega arith) (omega arith) (omega arith) refl
+variables_of_key-key (a ∷ []) few fit =
     let all = a ∷ [] in
     let la = fit 0 0 (omega arith) in
-    variables_of-digits (suc a) 0 0 0 (key_of all) (omega arith) (omega arith) (omega arith) (omega arith) refl
-variables_of-key (a ∷ b ∷ []) few fit =
+    variables_of_key-digits (suc a) 0 0 0 (key_of all) (omega arith) (omega arith) (omega arith) (omega arith) refl
+variables_of_key-key (a ∷ b ∷ []) few fit =
     let all = a ∷ b ∷ [] in
     let la = fit 0 0 (omega arith) in
     let lb = fit 1 0 (omega arith) in
-    variables_of-digits (suc a) (suc b) 0 0 (key_of all) (omega arith) (omega arith) (omega arith) (omega arith) refl
-variables_of-key (a ∷ b ∷ c ∷ []) few fit =
+    variables_of_key-digits (suc a) (suc b) 0 0 (key_of all) (omega arith) (omega arith) (omega arith) (omega arith) refl
+variables_of_key-key (a ∷ b ∷ c ∷ []) few fit =
     let all = a ∷ b ∷ c ∷ [] in
     let la = fit 0 0 (omega arith) in
     let lb = fit 1 0 (omega arith) in
     let lc = fit 2 0 (omega arith) in
-    variables_of-digits (suc a) (suc b) (suc c) 0 (key_of all) (omega arith) (omega arith) (omega arith) (omega arith) refl
-variables_of-key (a ∷ b ∷ c ∷ d ∷ []) few fit =
+    variables_of_key-digits (suc a) (suc b) (suc c) 0 (key_of all) (omega arith) (omega arith) (omega arith) (omega arith) refl
+variables_of_key-key (a ∷ b ∷ c ∷ d ∷ []) few fit =
     let all = a ∷ b ∷ c ∷ d ∷ [] in
     let la = fit 0 0 (omega arith) in
     let lb = fit 1 0 (omega arith) in
     let lc = fit 2 0 (omega arith) in
     let ld = fit 3 0 (omega arith) in
-    variables_of-digits (suc a) (suc b) (suc c) (suc d) (key_of all) (omega arith) (omega arith) (omega arith) (omega arith) refl
-variables_of-key (a ∷ b ∷ c ∷ d ∷ e ∷ vs) few fit = absurd (omega arith)
+    variables_of_key-digits (suc a) (suc b) (suc c) (suc d) (key_of all) (omega arith) (omega arith) (omega arith) (omega arith) refl
+variables_of_key-key (a ∷ b ∷ c ∷ d ∷ e ∷ vs) few fit = absurd (omega arith)
 
 -- the key of at most four variables of 16 bits is the key of them
 pub IsKey-of : (vs : List ℕ) → length vs ≤ 4 → AreFit vs → IsKey (key_of vs)
 IsKey-of vs few fit =
-    let e = variables_of-key vs few fit in
+    let e = variables_of_key-key vs few fit in
     record { same = ap key_of e; fit = subst AreFit (sym e) fit }
 
 -- so different variables have different keys
 pub same_from_keys : (us vs : List ℕ) → HaveKey us → HaveKey vs → key_of us ≡ key_of vs → us ≡ vs
-same_from_keys us vs a b e = sym (variables_of-key us a.few a.fit) ∙ ap variables_of e ∙ variables_of-key vs b.few b.fit
+same_from_keys us vs a b e = sym (variables_of_key-key us a.few a.fit) ∙ ap variables_of_key e ∙ variables_of_key-key vs b.few b.fit
 
 -- one above the greatest key of so many variables
 abbrev place : ℕ → ℕ

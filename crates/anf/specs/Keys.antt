@@ -15,20 +15,20 @@ abbrev pub key_of : List ℕ → ℕ
 key_of vs = digit vs 0 * 2 ^ 96 + digit vs 1 * 2 ^ 64 + digit vs 2 * 2 ^ 32 + digit vs 3
 
 -- the variable with a digit, if there is one
-abbrev pub variable_of : ℕ → List ℕ
-variable_of zero = []
-variable_of (suc v) = v ∷ []
+abbrev pub variable_of_digit : ℕ → List ℕ
+variable_of_digit zero = []
+variable_of_digit (suc v) = v ∷ []
 
 -- the variables with a key
-abbrev pub variables_of : ℕ → List ℕ
-variables_of key =
-    variable_of (key / 2 ^ 96) ++ variable_of (key / 2 ^ 64 % 2 ^ 32) ++ variable_of (key / 2 ^ 32 % 2 ^ 32)
-    ++ variable_of (key % 2 ^ 32)
+abbrev pub variables_of_key : ℕ → List ℕ
+variables_of_key key =
+    variable_of_digit (key / 2 ^ 96) ++ variable_of_digit (key / 2 ^ 64 % 2 ^ 32)
+    ++ variable_of_digit (key / 2 ^ 32 % 2 ^ 32) ++ variable_of_digit (key % 2 ^ 32)
 
 -- a number is the key of its variables, each of 16 bits
 pub record IsKey (number : ℕ) : Type 0 where
-  pub same : key_of (variables_of number) ≡ number
-  pub fit : All (λ v. v < 2 ^ 16) (variables_of number)
+  pub same : key_of (variables_of_key number) ≡ number
+  pub fit : All (λ v. v < 2 ^ 16) (variables_of_key number)
 
 -- what variables keep to that have a key: they rise, there are few enough, and each has 16 bits
 pub record HaveKey (variables : List ℕ) : Type 0 where

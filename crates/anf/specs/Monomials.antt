@@ -18,8 +18,8 @@ abbrev pub lists_of : List (SmallVec ℕ) → List (List ℕ)
 lists_of ms = map (λ m. m.items) ms
 
 -- the variables of a monomial rise
-abbrev pub IsRising : SmallVec ℕ → Type 0
-IsRising m = IsStrictlyIncreasing m.items
+abbrev pub IsSortedMonomial : SmallVec ℕ → Type 0
+IsSortedMonomial m = IsStrictlyIncreasing m.items
 
 -- A monomial has at most this many variables.
 abbrev pub most_in_monomial : ℕ
@@ -31,7 +31,7 @@ IsSmall m = length m.items ≤ most_in_monomial
 
 -- the variables of each monomial rise
 abbrev pub AreRising : List (SmallVec ℕ) → Type 0
-AreRising ms = All IsRising ms
+AreRising ms = All IsSortedMonomial ms
 
 -- each monomial has few enough variables
 abbrev pub AreSmall : List (SmallVec ℕ) → Type 0

@@ -4,7 +4,7 @@ ghost use Rattle.std.specs.Prelude.{◌≡◌, ◌<◌, ◌≤◌, ◌+◌, ◌+
 ghost use Rattle.gadget_model.specs.Polynomials.{symmetric_difference, odd_ones, unions};
 ghost use Rattle.gadget_limits.specs.Limits.{most_monomials};
 ghost use Rattle.anf.specs.Polynomials.{IsSetOf, HasFewVariables, Occurs, set_of};
-ghost use Rattle.anf.specs.Monomials.{sets_of, IsRising, AreRising, AreSmall, ArePairs};
+ghost use Rattle.anf.specs.Monomials.{sets_of, IsSortedMonomial, AreRising, AreSmall, ArePairs};
 ghost use Rattle.anf.specs.Keys.{HaveKey};
 ghost use Rattle.anf.specs.declared.poly_error.PolyError.TheVariants.{TooWide};
 
@@ -56,7 +56,7 @@ pub fn sum(alloc: Global, a: &Poly, b: &Poly) -> Result<Poly, PolyError>
 // The product of two monomials, which has the variables of both.
 fn union(alloc: Global, a: &Monomial, b: &Monomial) -> Result<Monomial, AllocError>
     ensures union { IfOk result (λ m. set_of m.items ≡ bit_or (set_of a.now.items) (set_of b.now.items)) }
-    ensures rising { IfOk result IsRising }
+    ensures rising { IfOk result IsSortedMonomial }
     ensures few { IfOk result (λ m. length m.items ≤ length a.now.items + length b.now.items) }
 {
     let mut variables = SmallVec::from_slice(alloc, a)?;

@@ -3,7 +3,7 @@
 ghost use Rattle.std.specs.Prelude.{◌≡◌, ◌≤◌, ◌++◌, length, IfOk, OnOk};
 ghost use Rattle.std.specs.List.Sorted.{IsStrictlyIncreasing};
 ghost use Rattle.anf.specs.Monomials.{most_in_monomial};
-ghost use Rattle.anf.specs.Keys.{digit, variable_of, HaveKey};
+ghost use Rattle.anf.specs.Keys.{digit, variable_of_digit, HaveKey};
 
 use crate::Monomial;
 use smallvec::SmallVec;
@@ -19,11 +19,11 @@ pub(crate) struct Key {
 
 impl Model for Key {
     ghost use Rattle.std.specs.Prelude.{List, ℕ};
-    ghost use Rattle.anf.specs.Keys.{key_of, variables_of, IsKey};
+    ghost use Rattle.anf.specs.Keys.{key_of, variables_of_key, IsKey};
 
     ghost Value = { List ℕ };
 
-    ghost view = { λ k. variables_of k.number };
+    ghost view = { λ k. variables_of_key k.number };
 
     ghost invariant = { λ k. IsKey k.number };
 
@@ -43,7 +43,7 @@ fn digit(variables: &[u16], place: usize) -> u128
 // Adds the variable with a digit, if there is one.
 fn push_variable(variables: &mut Monomial, digit: u128) -> Result<(), AllocError>
     requires { digit ≤ 65536 }
-    ensures { OnOk result (variables.new.items ≡ variables.old.items ++ variable_of digit) }
+    ensures { OnOk result (variables.new.items ≡ variables.old.items ++ variable_of_digit digit) }
 {
     if digit > 0 {
         variables.push((digit - 1) as u16)?;
