@@ -16,7 +16,7 @@ pub enum Opt {
     Budget,
     /// How many words the first table has.
     FirstWords,
-    /// Which wires are probed.
+    /// Which wires leak, and how many copies of each.
     Wires,
 }
 

@@ -8,7 +8,7 @@ ghost use Rattle.mask_terms.specs.Tasks.{task_named, task_word};
 pub enum Task {
     /// Non-interference.
     Ni,
-    /// Tight non-interference.
+    /// Non-interference by the number of probes.
     Tni,
     /// Strong non-interference.
     Sni,

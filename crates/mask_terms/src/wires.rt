@@ -1,9 +1,9 @@
-//! Which wires of a gadget are probed.
+//! Which wires of a gadget leak, and how many copies of each.
 
 ghost use Rattle.std.specs.Prelude.{◌≡◌};
 ghost use Rattle.mask_terms.specs.Wires.{wires_named};
 
-/// Which wires of a gadget are probed.
+/// Which wires of a gadget leak, and how many copies of each.
 #[derive(Clone, Copy, Debug, PartialEq, Eq, Drop)]
 pub enum Wires {
     /// Each variable is one wire.

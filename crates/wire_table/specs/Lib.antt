@@ -1,4 +1,5 @@
 pub mod Refusals
+pub mod Items
 -- The theorem of `check` doesn't rest on what follows: proofs and the contracts of inner calls use it.
 pub mod Tables
 pub mod Inside

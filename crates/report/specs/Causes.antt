@@ -5,8 +5,8 @@ use Rattle.gadget_text.specs.declared.file_error.FileError.{FileError}
 use Rattle.gadget_text.specs.declared.file_error.FileError.TheVariants as files
 use Rattle.wire_table.specs.declared.wire_error.WireError.{WireError}
 use Rattle.wire_table.specs.declared.wire_error.WireError.TheVariants as wires
-use Rattle.mask_check.specs.declared.status.Status.{Status}
-use Rattle.mask_check.specs.declared.status.Status.TheVariants as statuses
+use Rattle.report.specs.declared.status.Status.{Status}
+use Rattle.report.specs.declared.status.Status.TheVariants as statuses
 
 abbrev pub status_of_read : ReadError → Status
 status_of_read reads.ReadFault = statuses.ReadFault

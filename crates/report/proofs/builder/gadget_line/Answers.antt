@@ -2,8 +2,8 @@
 use Rattle.std.proofs.Common.{◌≡◌, ◌∙◌, ap, sym, length, append_assoc}
 use Rattle.std.proofs.lemmas.List.{length-map}
 use Rattle.gadget_tree.specs.Seen.{variable_of}
-use Rattle.mask_check.specs.Report.{gadget_line}
-use Rattle.mask_check.proofs.report.gadget_line.Goals as goal
+use Rattle.report.specs.Report.{gadget_line}
+use Rattle.report.proofs.builder.gadget_line.Goals as goal
 
 pub returns : goal.returns
 unfolding gadget_line

@@ -9,11 +9,14 @@ use Rattle.gadget_text.specs.declared.file_error.What.{What}
 use Rattle.gadget_text.specs.declared.file_error.What.TheVariants as what
 use Rattle.wire_table.specs.declared.wire_error.WireError.{WireError}
 use Rattle.wire_table.specs.declared.wire_error.WireError.TheVariants as wire_error
-use Rattle.mask_check.specs.declared.status.UsageKind.{UsageKind}
-use Rattle.mask_check.specs.declared.status.UsageKind.TheVariants.{Words, Task, Argument}
-use Rattle.mask_check.specs.declared.status.Status.{Status}
-use Rattle.mask_check.specs.declared.status.Status.TheVariants.{Yes, No, Usage, File, Wires, TooLong, ReadFault, WriteFault, OutOfMemory}
-use Rattle.mask_check.specs.declared.texts.StatusRow.{StatusRow}
+use Rattle.mask_terms.specs.Options.{option_word}
+use Rattle.mask_terms.specs.declared.usage_kind.UsageKind.{UsageKind}
+use Rattle.mask_terms.specs.declared.usage_kind.UsageKind.TheVariants.{Words, Task, Argument, Value}
+use Rattle.report.specs.declared.status.NotFor.{NotFor}
+use Rattle.report.specs.declared.status.NotFor.TheVariants.{SeveralOutputs}
+use Rattle.report.specs.declared.status.Status.{Status}
+use Rattle.report.specs.declared.status.Status.TheVariants.{Yes, No, Usage, SizeNotUsed, File, Wires, TooLong, NotForGadget, Budget, ReadFault, WriteFault, OutOfMemory}
+use Rattle.report.specs.declared.texts.StatusRow.{StatusRow}
 
 -- a row of the table: an exit status and a text, which has no line feed
 abbrev pub row : ℕ → List ℕ → StatusRow
@@ -32,6 +35,7 @@ abbrev pub usage_text : UsageKind → List ℕ
 usage_text Words = codes "mask: usage: mask TASK ARG [options]"
 usage_text Task = codes "mask: unknown task"
 usage_text Argument = codes "mask: bad argument"
+usage_text (Value option) = codes "mask: bad value of " ++ option_word option
 
 -- a header, as a file writes it
 abbrev pub header_text : Header → List ℕ
@@ -72,14 +76,21 @@ wires_row (wire_error.RandomProduct var line) = line_row line (codes "random in 
 wires_row (wire_error.Degree var line) = line_row line (codes "degree above 2")
 wires_row wire_error.OutOfMemory = memory_row
 
+-- why the gadget doesn't suit the task
+abbrev pub not_for_text : NotFor → List ℕ
+not_for_text SeveralOutputs = codes "mask: sni needs one output"
+
 -- The table of the statuses. The text says why there is no report, and is empty where there is one.
 abbrev pub row_of : Status → StatusRow
 row_of Yes = row 0 []
 row_of No = row 1 []
 row_of (Usage kind) = row 2 (usage_text kind)
+row_of SizeNotUsed = row 2 (codes "mask: --size and --wires are for rpc and rpe")
 row_of (File error) = file_row error
 row_of (Wires error) = wires_row error
 row_of TooLong = row 3 (codes "mask: file too long")
+row_of (NotForGadget why) = row 4 (not_for_text why)
+row_of (Budget count) = row 5 (codes "mask: over budget: " ++ decimal count)
 row_of ReadFault = row 6 (codes "mask: read failed")
 row_of WriteFault = row 7 (codes "mask: write failed")
 row_of OutOfMemory = memory_row

@@ -1,13 +1,16 @@
 //! What the caller of the program sees of a status: a line of text, and an exit status.
 
 ghost use Rattle.std.specs.Prelude.{◌≡◌, ◌≤◌, length};
-ghost use Rattle.mask_check.specs.Texts.{row, line_row, memory_row, usage_text, header_text, what_text, file_row, wires_row, row_of};
+ghost use Rattle.mask_terms.specs.declared.usage_kind.UsageKind.TheVariants.{Value};
+ghost use Rattle.report.specs.declared.status.Status.TheVariants.{Budget};
+ghost use Rattle.report.specs.Texts.{row, line_row, memory_row, usage_text, header_text, what_text, file_row, wires_row, not_for_text, row_of};
 
 use crate::line::Line;
-use crate::status::{Status, UsageKind};
+use crate::status::{NotFor, Status};
 use gadget_text::Header;
 use gadget_tree::{FileError, What};
 use itoa::Buffer;
+use mask_terms::{Opt, UsageKind};
 use wire_table::WireError;
 
 // A row of the table of statuses.
@@ -38,10 +41,13 @@ fn row_of(status: &Status) -> StatusRow
     match status {
         Status::Yes => row(0, ""),
         Status::No => row(1, ""),
-        Status::Usage(kind) => row(2, usage_text(*kind)),
+        Status::Usage(kind) => usage_row(*kind),
+        Status::SizeNotUsed => row(2, "mask: --size and --wires are for rpc and rpe"),
         Status::File(error) => file_row(*error),
         Status::Wires(error) => wires_row(*error),
         Status::TooLong => row(3, "mask: file too long"),
+        Status::NotForGadget(why) => row(4, not_for_text(*why)),
+        Status::Budget(count) => budget_row(*count),
         Status::ReadFault => row(6, "mask: read failed"),
         Status::WriteFault => row(7, "mask: write failed"),
         Status::OutOfMemory => memory_row(),
@@ -49,7 +55,7 @@ fn row_of(status: &Status) -> StatusRow
 }
 
 fn row(exit: u8, text: &str) -> StatusRow
-    requires { length text.now ≤ 40 }
+    requires { length text.now ≤ 50 }
     ensures { result ≡ row exit text.now }
 {
     let mut line = Line::new();
@@ -64,15 +70,25 @@ fn memory_row() -> StatusRow
     row(8, "mask: out of memory")
 }
 
-fn usage_text(kind: UsageKind) -> &'static str
-    ensures text { result.now ≡ usage_text kind }
-    ensures short { length result.now ≤ 40 }
+// What is wrong with the command line.
+fn usage_row(kind: UsageKind) -> StatusRow
+    ensures { result ≡ row 2 (usage_text kind) }
 {
     match kind {
-        UsageKind::Words => "mask: usage: mask TASK ARG [options]",
-        UsageKind::Task => "mask: unknown task",
-        UsageKind::Argument => "mask: bad argument",
+        UsageKind::Words => row(2, "mask: usage: mask TASK ARG [options]"),
+        UsageKind::Task => row(2, "mask: unknown task"),
+        UsageKind::Argument => row(2, "mask: bad argument"),
+        UsageKind::Value(option) => value_row(option),
     }
+}
+
+// An option with a value that it doesn't take.
+fn value_row(option: Opt) -> StatusRow
+    ensures { result ≡ row 2 (usage_text (Value option)) }
+{
+    let mut refused = row(2, "mask: bad value of ");
+    refused.text.push(option.word());
+    refused
 }
 
 // Why a file is refused.
@@ -151,6 +167,26 @@ fn many_row(what: What) -> StatusRow
     refused
 }
 
+// More tuples than the budget has.
+fn budget_row(count: u64) -> StatusRow
+    ensures { result ≡ row_of (Budget count) }
+{
+    let mut digits = Buffer::new();
+    let mut refused = row(5, "mask: over budget: ");
+    refused.text.push(digits.format(count));
+    refused
+}
+
+// Why a gadget doesn't suit the task.
+fn not_for_text(why: NotFor) -> &'static str
+    ensures text { result.now ≡ not_for_text why }
+    ensures short { length result.now ≤ 50 }
+{
+    match why {
+        NotFor::SeveralOutputs => "mask: sni needs one output",
+    }
+}
+
 fn header_text(header: Header) -> &'static str
     ensures text { result.now ≡ header_text header }
     ensures short { length result.now ≤ 8 }
@@ -182,159 +218,167 @@ fn what_text(what: What) -> &'static str
 mod tests {
     use super::*;
 
-    // Statuses, and the text and the exit status of each.
-    const TABLE: [(Status, &[u8], u8); 33] = [
+    // Statuses that no other table has, and the text and the exit status of each.
+    const STATUSES: [(Status, &[u8], u8); 14] = [
         (Status::Yes, b"", 0),
+        (Status::No, b"", 1),
         (
             Status::Usage(UsageKind::Words),
             b"mask: usage: mask TASK ARG [options]",
             2,
         ),
-        (Status::No, b"", 1),
         (Status::Usage(UsageKind::Task), b"mask: unknown task", 2),
         (Status::Usage(UsageKind::Argument), b"mask: bad argument", 2),
         (
-            Status::File(FileError::NotText(4294967295)),
-            b"mask: line 4294967295: not text",
-            3,
+            Status::SizeNotUsed,
+            b"mask: --size and --wires are for rpc and rpe",
+            2,
+        ),
+        (Status::TooLong, b"mask: file too long", 3),
+        (
+            Status::NotForGadget(NotFor::SeveralOutputs),
+            b"mask: sni needs one output",
+            4,
         ),
         (
-            Status::File(FileError::Syntax(10)),
-            b"mask: line 10: syntax",
-            3,
+            Status::Budget(18446744073709551615),
+            b"mask: over budget: 18446744073709551615",
+            5,
         ),
-        (
-            Status::File(FileError::HeaderTwice(2)),
-            b"mask: line 2: header twice",
-            3,
-        ),
-        (
-            Status::File(FileError::HeaderMissing(Header::Profile)),
-            b"mask: no #PROFILE line",
-            3,
-        ),
-        (
-            Status::File(FileError::HeaderMissing(Header::Shares)),
-            b"mask: no #SHARES line",
-            3,
-        ),
-        (
-            Status::File(FileError::HeaderMissing(Header::In)),
-            b"mask: no #IN line",
-            3,
-        ),
-        (
-            Status::File(FileError::HeaderMissing(Header::Randoms)),
-            b"mask: no #RANDOMS line",
-            3,
-        ),
-        (
-            Status::File(FileError::HeaderMissing(Header::Out)),
-            b"mask: no #OUT line",
-            3,
-        ),
-        (
-            Status::File(FileError::BadNumber(1)),
-            b"mask: line 1: bad number",
-            3,
-        ),
-        (
-            Status::File(FileError::BadName(2)),
-            b"mask: line 2: bad name",
-            3,
-        ),
-        (
-            Status::File(FileError::NameTwice(7)),
-            b"mask: line 7: name twice",
-            3,
-        ),
-        (
-            Status::File(FileError::Unknown(6)),
-            b"mask: line 6: unknown name",
-            3,
-        ),
-        (
-            Status::File(FileError::OutputMissing(1, 15)),
-            b"mask: output 1 share 15 is not assigned",
-            3,
-        ),
-        (
-            Status::File(FileError::TooMany(What::Shares)),
-            b"mask: too many shares",
-            3,
-        ),
-        (
-            Status::File(FileError::TooMany(What::Inputs)),
-            b"mask: too many inputs",
-            3,
-        ),
-        (
-            Status::File(FileError::TooMany(What::Outputs)),
-            b"mask: too many outputs",
-            3,
-        ),
-        (
-            Status::File(FileError::TooMany(What::Randoms)),
-            b"mask: too many randoms",
-            3,
-        ),
-        (
-            Status::File(FileError::TooMany(What::Nesting)),
-            b"mask: too many parentheses",
-            3,
-        ),
-        (
-            Status::File(FileError::TooMany(What::Variables)),
-            b"mask: too many variables",
-            3,
-        ),
+        (Status::ReadFault, b"mask: read failed", 6),
+        (Status::WriteFault, b"mask: write failed", 7),
+        (Status::OutOfMemory, b"mask: out of memory", 8),
         (
             Status::File(FileError::OutOfMemory),
             b"mask: out of memory",
             8,
         ),
         (
-            Status::Wires(WireError::TooWide {
-                var: 6,
-                line: 4294967295,
-            }),
-            b"mask: line 4294967295: too many monomials",
-            3,
-        ),
-        (
-            Status::Wires(WireError::RandomProduct {
-                var: 6,
-                line: 4294967295,
-            }),
-            b"mask: line 4294967295: random in a product",
-            3,
-        ),
-        (
-            Status::Wires(WireError::Degree {
-                var: 6,
-                line: 4294967295,
-            }),
-            b"mask: line 4294967295: degree above 2",
-            3,
-        ),
-        (
             Status::Wires(WireError::OutOfMemory),
             b"mask: out of memory",
             8,
         ),
-        (Status::TooLong, b"mask: file too long", 3),
-        (Status::ReadFault, b"mask: read failed", 6),
-        (Status::WriteFault, b"mask: write failed", 7),
-        (Status::OutOfMemory, b"mask: out of memory", 8),
+    ];
+
+    // What an option is refused for.
+    const OPTIONS: [(Opt, &[u8]); 6] = [
+        (Opt::Size, b"mask: bad value of --size"),
+        (Opt::Workers, b"mask: bad value of --workers"),
+        (Opt::Block, b"mask: bad value of --block"),
+        (Opt::Budget, b"mask: bad value of --budget"),
+        (Opt::FirstWords, b"mask: bad value of --words"),
+        (Opt::Wires, b"mask: bad value of --wires"),
+    ];
+
+    // What a file is refused for.
+    const FILES: [(FileError, &[u8]); 19] = [
+        (
+            FileError::NotText(4294967295),
+            b"mask: line 4294967295: not text",
+        ),
+        (FileError::Syntax(10), b"mask: line 10: syntax"),
+        (FileError::HeaderTwice(2), b"mask: line 2: header twice"),
+        (
+            FileError::HeaderMissing(Header::Profile),
+            b"mask: no #PROFILE line",
+        ),
+        (
+            FileError::HeaderMissing(Header::Shares),
+            b"mask: no #SHARES line",
+        ),
+        (FileError::HeaderMissing(Header::In), b"mask: no #IN line"),
+        (
+            FileError::HeaderMissing(Header::Randoms),
+            b"mask: no #RANDOMS line",
+        ),
+        (FileError::HeaderMissing(Header::Out), b"mask: no #OUT line"),
+        (FileError::BadNumber(1), b"mask: line 1: bad number"),
+        (FileError::BadName(2), b"mask: line 2: bad name"),
+        (FileError::NameTwice(7), b"mask: line 7: name twice"),
+        (FileError::Unknown(6), b"mask: line 6: unknown name"),
+        (
+            FileError::OutputMissing(1, 15),
+            b"mask: output 1 share 15 is not assigned",
+        ),
+        (FileError::TooMany(What::Shares), b"mask: too many shares"),
+        (FileError::TooMany(What::Inputs), b"mask: too many inputs"),
+        (FileError::TooMany(What::Outputs), b"mask: too many outputs"),
+        (FileError::TooMany(What::Randoms), b"mask: too many randoms"),
+        (
+            FileError::TooMany(What::Nesting),
+            b"mask: too many parentheses",
+        ),
+        (
+            FileError::TooMany(What::Variables),
+            b"mask: too many variables",
+        ),
+    ];
+
+    // What a gadget is refused for.
+    const WIRES: [(WireError, &[u8]); 3] = [
+        (
+            WireError::TooWide {
+                var: 6,
+                line: 4294967295,
+            },
+            b"mask: line 4294967295: too many monomials",
+        ),
+        (
+            WireError::RandomProduct {
+                var: 6,
+                line: 4294967295,
+            },
+            b"mask: line 4294967295: random in a product",
+        ),
+        (
+            WireError::Degree {
+                var: 6,
+                line: 4294967295,
+            },
+            b"mask: line 4294967295: degree above 2",
+        ),
     ];
 
     #[test]
     fn each_status_has_its_text_and_exit_status(rt: HostRuntime) {
         let mut line = Line::new();
-        for (status, text, exit) in TABLE {
+        for (status, text, exit) in STATUSES {
             status_text(&status, &mut line);
             assert_eq!(rt; line.bytes(), text, "at {status:?}");
             assert_eq!(rt; exit_status(&status), exit, "at {status:?}");
+        }
+    }
+
+    #[test]
+    fn a_bad_value_is_said_of_its_option(rt: HostRuntime) {
+        let mut line = Line::new();
+        for (option, text) in OPTIONS {
+            let status = Status::Usage(UsageKind::Value(option));
+            status_text(&status, &mut line);
+            assert_eq!(rt; line.bytes(), text);
+            assert_eq!(rt; exit_status(&status), 2);
+        }
+    }
+
+    #[test]
+    fn each_refusal_of_a_file_says_why(rt: HostRuntime) {
+        let mut line = Line::new();
+        for (error, text) in FILES {
+            let status = Status::File(error);
+            status_text(&status, &mut line);
+            assert_eq!(rt; line.bytes(), text);
+            assert_eq!(rt; exit_status(&status), 3);
+        }
+    }
+
+    #[test]
+    fn each_refusal_of_a_gadget_says_why(rt: HostRuntime) {
+        let mut line = Line::new();
+        for (error, text) in WIRES {
+            let status = Status::Wires(error);
+            status_text(&status, &mut line);
+            assert_eq!(rt; line.bytes(), text);
+            assert_eq!(rt; exit_status(&status), 3);
         }
     }
 }

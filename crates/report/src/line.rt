@@ -1,7 +1,7 @@
 //! A short text in place, so that a message can be put together where memory ran out.
 
 ghost use Rattle.std.specs.Prelude.{◌≡◌, ◌+◌, ◌≤◌, [], ◌++◌, length};
-ghost use Rattle.mask_check.specs.Limits.{most_line_bytes};
+ghost use Rattle.report.specs.Limits.{most_line_bytes};
 
 use arrayvec::ArrayString;
 use std::marker::Model;

@@ -1,7 +1,7 @@
 -- The format joins its pieces from the right.
 use Rattle.std.proofs.Common.{append_assoc}
-use Rattle.mask_check.specs.Report.{space_line}
-use Rattle.mask_check.proofs.report.space_line.Goals as goal
+use Rattle.report.specs.Report.{space_line}
+use Rattle.report.proofs.builder.space_line.Goals as goal
 
 pub returns : goal.returns
 unfolding space_line

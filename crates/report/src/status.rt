@@ -1,22 +1,19 @@
 //! How a check ends.
 
 ghost use Rattle.std.specs.Prelude.{◌≡◌};
-ghost use Rattle.mask_check.specs.Causes.{status_of_read, status_of_file, status_of_wires};
-ghost use Rattle.mask_check.specs.declared.status.Status.TheVariants.{Usage, WriteFault, OutOfMemory};
+ghost use Rattle.report.specs.Causes.{status_of_read, status_of_file, status_of_wires};
+ghost use Rattle.report.specs.declared.status.Status.TheVariants.{WriteFault, OutOfMemory};
 
 use gadget_tree::FileError;
 use mask_bytes::{Failed, OutOfMemory, ReadError};
+use mask_terms::UsageKind;
 use wire_table::WireError;
 
-/// What is wrong with the words of the command line.
+/// Why a gadget doesn't suit a task.
 #[derive(Clone, Copy, Debug, PartialEq, Eq, Drop)]
-pub enum UsageKind {
-    /// There are not the program's name and two words.
-    Words,
-    /// The first word is no task.
-    Task,
-    /// The second word is no order that is supported.
-    Argument,
+pub enum NotFor {
+    /// Strong non-interference speaks of gadgets with one output.
+    SeveralOutputs,
 }
 
 /// How a check ends.
@@ -27,23 +24,20 @@ pub enum Status {
     /// Some set of probes fails, and the report lists the minimal ones.
     No,
     Usage(UsageKind),
+    /// `--size` or `--wires` was given with a task that uses neither.
+    SizeNotUsed,
     /// The file is refused.
     File(FileError),
     /// The gadget is outside the class that the verifier decides.
     Wires(WireError),
     /// The file has more than 1,048,576 bytes.
     TooLong,
+    NotForGadget(NotFor),
+    /// So many tuples would have to be looked at, which is more than the budget.
+    Budget(u64),
     ReadFault,
     WriteFault,
     OutOfMemory,
-}
-
-impl From<UsageKind> for Status {
-    ghost from_gives = { λ kind status. status ≡ Usage kind };
-
-    fn from(kind: UsageKind) -> Status {
-        Status::Usage(kind)
-    }
 }
 
 impl From<ReadError> for Status {

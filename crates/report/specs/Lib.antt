@@ -1,0 +1,6 @@
+pub mod Report
+-- The theorem of `check` doesn't rest on what follows: proofs and the contracts of inner calls use it.
+pub mod Additions
+pub mod Limits
+pub mod Texts
+pub mod Causes

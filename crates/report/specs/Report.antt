@@ -1,0 +1,52 @@
+-- The text of a report.
+use Rattle.std.specs.Prelude.{ℕ, ◌<◌, Bool, true, false, List, [], ◌∷◌, ◌++◌, length, map, All, flat_map, codes, decimal, slice_index_or}
+use Rattle.gadget_model.specs.Circuit.{Circuit}
+use Rattle.wire_table.specs.Items.{Item}
+use Rattle.mask_terms.specs.Tasks.{task_word}
+use Rattle.mask_terms.specs.declared.task.Task.{Task}
+
+abbrev pub newline : List ℕ
+newline = 10 ∷ []
+
+-- the check that was asked for: the task, and its order
+unfoldable pub check_line : Task → ℕ → List ℕ
+check_line task t = codes "check " ++ task_word task ++ codes " " ++ decimal t ++ newline
+
+-- the gadget that was checked
+unfoldable pub gadget_line : Circuit → List ℕ
+gadget_line g =
+    codes "gadget shares " ++ decimal g.shares ++ codes " inputs " ++ decimal (length g.inputs)
+    ++ codes " outputs " ++ decimal (length g.outputs) ++ codes " randoms " ++ decimal g.randoms
+    ++ codes " variables " ++ decimal (length g.variables) ++ newline
+
+-- how many items there are, of how many of them a tuple has at most, and how many tuples there are
+unfoldable pub space_line : ℕ → ℕ → ℕ → List ℕ
+space_line items size tuples =
+    codes "space items " ++ decimal items ++ codes " size " ++ decimal size
+    ++ codes " tuples " ++ decimal tuples ++ newline
+
+-- The head: the check, the gadget, and the tuples that are asked about.
+abbrev pub head : Task → ℕ → Circuit → ℕ → ℕ → ℕ → List ℕ
+head task t g items size tuples = check_line task t ++ gadget_line g ++ space_line items size tuples
+
+-- the name of the item with a number
+abbrev pub item_name : List Item → ℕ → List ℕ
+item_name items i = slice_index_or (map (λ item. item.name) items) i []
+
+-- A line for a failing tuple: its size and the names of its items.
+unfoldable pub fail_line : List Item → List ℕ → List ℕ
+fail_line items tuple =
+    codes "fail " ++ decimal (length tuple) ++ flat_map (λ i. codes " " ++ item_name items i) tuple ++ newline
+
+-- A line for each failing tuple, in order.
+abbrev pub fail_lines : List Item → List (List ℕ) → List ℕ
+fail_lines items failing = flat_map (fail_line items) failing
+
+-- whether no tuple fails
+abbrev pub verdict : Bool → List ℕ
+verdict true = codes "verdict yes" ++ newline
+verdict false = codes "verdict no" ++ newline
+
+-- the items of a tuple are numbers of these
+abbrev pub AreAmong : List Item → List ℕ → Type 0
+AreAmong items tuple = All (λ i. i < length items) tuple
