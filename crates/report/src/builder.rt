@@ -3,7 +3,7 @@
 ghost use Rattle.std.specs.Prelude.{◌≡◌, ◌<◌, [], ◌++◌, length, map, All, IfOk, OnOk, OnErr, codes, string_bytes};
 ghost use Rattle.wire_table.specs.Items.{item_of};
 ghost use Rattle.report.specs.Report.{AreAmong, head, check_line as check_line_of, gadget_line as gadget_line_of, space_line as space_line_of, item_name, fail_line, fail_lines, verdict};
-ghost use Rattle.report.specs.Additions.{Adds};
+ghost use Rattle.report.specs.Additions.{Appends};
 
 use antichain_list::Antichain;
 use gadget_tree::Gadget;
@@ -128,7 +128,7 @@ fn space_line(alloc: Global, items: u16, size: u8, tuples: u64) -> Result<String
 // Adds a line for each tuple of the list.
 fn add_fail_lines(bytes: &mut Vec<u8>, items: &[Item], list: &Antichain) -> Result<(), OutOfMemory>
     requires { All (AreAmong (map item_of items.now)) list.now }
-    ensures { Adds result bytes.old.items (fail_lines (map item_of items.now) list.now) bytes.new.items }
+    ensures { Appends result bytes.old.items (fail_lines (map item_of items.now) list.now) bytes.new.items }
 {
     for place in 0..list.len() {
         add_fail_line(bytes, items, list.tuple(place).items())?;
@@ -140,7 +140,7 @@ fn add_fail_lines(bytes: &mut Vec<u8>, items: &[Item], list: &Antichain) -> Resu
 #[tactic(auto, unfolding(crate::specs::Report::fail_line))]
 fn add_fail_line(bytes: &mut Vec<u8>, items: &[Item], tuple: &[u16]) -> Result<(), OutOfMemory>
     requires { AreAmong (map item_of items.now) tuple.now }
-    ensures { Adds result bytes.old.items (fail_line (map item_of items.now) tuple.now) bytes.new.items }
+    ensures { Appends result bytes.old.items (fail_line (map item_of items.now) tuple.now) bytes.new.items }
 {
     bytes.extend_from_slice(b"fail ")?;
     bytes.extend_from_slice(Buffer::new().format(tuple.len()).as_bytes())?;
@@ -153,7 +153,7 @@ fn add_fail_line(bytes: &mut Vec<u8>, items: &[Item], tuple: &[u16]) -> Result<(
 // Adds a space and the name of the item with this number.
 fn add_name(bytes: &mut Vec<u8>, items: &[Item], number: u16) -> Result<(), OutOfMemory>
     requires { number < length items.now }
-    ensures { Adds result bytes.old.items (codes " " ++ item_name (map item_of items.now) number) bytes.new.items }
+    ensures { Appends result bytes.old.items (codes " " ++ item_name (map item_of items.now) number) bytes.new.items }
 {
     bytes.push(b' ')?;
     Ok(bytes.extend_from_slice(items[usize::from(number)].name.bytes())?)

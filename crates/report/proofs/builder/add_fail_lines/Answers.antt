@@ -5,7 +5,7 @@ use Rattle.std.proofs.lemmas.Result.{err_from_is_err_and}
 use Rattle.wire_table.specs.Items.{item_of}
 use Rattle.report.specs.Report.{fail_line, fail_lines}
 use Rattle.report.proofs.Additions.{Extends-after}
-use Rattle.report.proofs.ReportTexts.{take-one_more}
+use Rattle.report.proofs.FailLines.{take-one_more}
 use Rattle.report.proofs.builder.add_fail_lines.Goals as goal
 
 pub returns-in_err-add_fail_line : goal.returns-in_err-add_fail_line

@@ -1,6 +1,6 @@
 -- The item that is read is the one that the number names.
 use Rattle.std.proofs.Common.{ℕ, List, [], ◌∷◌, ◌++◌, get_or, ap, ◌∙◌, sym, append_assoc}
-use Rattle.report.proofs.ReportTexts.{item_name_at}
+use Rattle.report.proofs.FailLines.{item_name_at}
 use Rattle.report.proofs.builder.add_name.Goals as goal
 
 pub returns : goal.returns
