@@ -7,7 +7,7 @@ use Rattle.wire_table.specs.declared.item.Item as code
 use Rattle.wire_table.specs.Items.{item_of, Item}
 use Rattle.report.specs.Report.{item_name}
 
--- the name of an item of the code's
+-- the name that a report gives an item is that of the item itself
 pub item_name_at : (items : List code.Item) (i : ℕ) (item : code.Item) → i < length items →
     item_name (map item_of items) i ≡ (get_or items i item).name
 item_name_at items i item h =

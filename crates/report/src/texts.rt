@@ -339,46 +339,41 @@ mod tests {
         ),
     ];
 
+    // Whether a status has this text and this exit status.
+    fn has(status: &Status, text: &[u8], exit: u8) -> bool {
+        let mut line = Line::new();
+        status_text(status, &mut line);
+        line.bytes() == text && exit_status(status) == exit
+    }
+
     #[test]
     fn each_status_has_its_text_and_exit_status(rt: HostRuntime) {
-        let mut line = Line::new();
         for (status, text, exit) in STATUSES {
-            status_text(&status, &mut line);
-            assert_eq!(rt; line.bytes(), text, "at {status:?}");
-            assert_eq!(rt; exit_status(&status), exit, "at {status:?}");
+            assert!(rt; has(&status, text, exit), "at {status:?}");
         }
     }
 
     #[test]
     fn a_bad_value_is_said_of_its_option(rt: HostRuntime) {
-        let mut line = Line::new();
         for (option, text) in OPTIONS {
             let status = Status::Usage(UsageKind::Value(option));
-            status_text(&status, &mut line);
-            assert_eq!(rt; line.bytes(), text);
-            assert_eq!(rt; exit_status(&status), 2);
+            assert!(rt; has(&status, text, 2), "at {status:?}");
         }
     }
 
     #[test]
     fn each_refusal_of_a_file_says_why(rt: HostRuntime) {
-        let mut line = Line::new();
         for (error, text) in FILES {
             let status = Status::File(error);
-            status_text(&status, &mut line);
-            assert_eq!(rt; line.bytes(), text);
-            assert_eq!(rt; exit_status(&status), 3);
+            assert!(rt; has(&status, text, 3), "at {status:?}");
         }
     }
 
     #[test]
     fn each_refusal_of_a_gadget_says_why(rt: HostRuntime) {
-        let mut line = Line::new();
         for (error, text) in WIRES {
             let status = Status::Wires(error);
-            status_text(&status, &mut line);
-            assert_eq!(rt; line.bytes(), text);
-            assert_eq!(rt; exit_status(&status), 3);
+            assert!(rt; has(&status, text, 3), "at {status:?}");
         }
     }
 }
