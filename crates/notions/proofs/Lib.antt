@@ -1,3 +1,1 @@
 pub mod ShareCounts
-pub mod Least
-pub mod Checks

@@ -1,6 +1,11 @@
 //! Probing notions: which sets of probes fail.
 #![tactic(auto)]
 
-mod ni;
+mod grants;
+mod items;
+mod notion;
+mod query;
+mod scratch;
 
-pub use ni::NiCheck;
+pub use notion::{Notion, NotionError};
+pub use query::NotionQuery;

@@ -1,0 +1,52 @@
+-- The items of a notion: what its sets of probes are made of.
+use Rattle.std.specs.Prelude.{ℕ, ◌+◌, ◌*◌, ◌%◌, ◌==◌, List, [], ◌∷◌, ◌++◌, length, map, codes, decimal, slice_index_or, Option, Some, None, option_map, is_none}
+use Rattle.std.specs.List.{filter, position, range_with_len}
+use Rattle.gadget_model.specs.Circuit.{Circuit}
+use Rattle.gadget_tree.specs.Variables.{name_at}
+use Rattle.wire_table.specs.Items.{Item}
+use Rattle.wire_table.specs.declared.item.ItemKind.{ItemKind}
+use Rattle.wire_table.specs.declared.item.ItemKind.TheVariants.{Internal, Output}
+use Rattle.notions.specs.declared.notion.Notion.{Notion}
+use Rattle.notions.specs.declared.notion.Notion.TheVariants.{Ni, Tni, Sni, Pini}
+
+-- the index of the share of an output that a variable is, where it is one
+abbrev pub output_index : Circuit → ℕ → Option ℕ
+output_index g v = option_map (λ place. place % g.shares) (position (λ share. share == v) g.output_shares)
+
+-- a share of an output with this index, or none
+abbrev pub kind_of : Option ℕ → ItemKind
+kind_of None = Internal
+kind_of (Some index) = Output index
+
+-- a variable as an item: a probe on one wire
+abbrev pub variable_item : Circuit → ℕ → Item
+variable_item g v = record {
+  name = name_at g.variables v;
+  variables = v ∷ [];
+  kind = kind_of (output_index g v);
+  weight = 1;
+}
+
+-- a column as an item: the shares with one index of all outputs, observed together
+-- (Cassiers and Standaert, IEEE TIFS 2020)
+abbrev pub column_item : Circuit → ℕ → Item
+column_item g index = record {
+  name = codes "*" ++ decimal index;
+  variables =
+      map (λ output. slice_index_or g.output_shares (g.shares * output + index) 0) (range_with_len 0 (length g.outputs));
+  kind = Output index;
+  weight = 1;
+}
+
+-- the numbers of the gadget's variables
+abbrev pub numbers : Circuit → List ℕ
+numbers g = range_with_len 0 (length g.variables)
+
+-- the variables that are no shares of outputs
+abbrev pub inner_numbers : Circuit → List ℕ
+inner_numbers g = filter (λ v. is_none (output_index g v)) (numbers g)
+
+-- PINI asks of the variables that are no shares of outputs, and then of the columns; the other notions of each variable.
+unfoldable pub items_of : Notion → Circuit → List Item
+items_of Pini g = map (variable_item g) (inner_numbers g) ++ map (column_item g) (range_with_len 0 g.shares)
+items_of _ g = map (variable_item g) (numbers g)

@@ -1,0 +1,24 @@
+-- The question whether sets of probes break a notion.
+use Rattle.std.specs.Prelude.{◌≡◌, ℕ, ◌≤◌, ◌<◌, List, length, map, All}
+use Rattle.tuple_model.specs.Limits.{most_size}
+use Rattle.gadget_model.specs.Circuit.{Circuit}
+use Rattle.wire_table.specs.Tables.{Table, StandsFor}
+use Rattle.wire_table.specs.Items.{Item, item_of}
+use Rattle.notions.specs.declared.notion.Notion.{Notion}
+use Rattle.notions.specs.Items.{items_of}
+use Rattle.notions.specs.Notions.{Fails}
+
+-- what is asked: a notion of an order, of a gadget, with its table
+pub record NotionQuestion : Type 0 where
+  pub notion : Notion
+  pub gadget : Circuit
+  pub table : Table
+  pub t : ℕ
+
+-- the items of which it is asked
+abbrev pub items_asked : NotionQuestion → List Item
+items_asked q = items_of q.notion q.gadget
+
+-- the tuples that fail for a question
+abbrev pub FailsFor : NotionQuestion → List ℕ → Type 0
+FailsFor q = Fails q.notion q.gadget q.t (items_asked q)
