@@ -1,5 +1,5 @@
 -- How many shares of an input are in a set.
-use Rattle.std.proofs.Common.{◌≡◌, ℕ, zero, suc, ◌+◌, ◌*◌, ◌/◌, ◌%◌, ◌^◌, ◌<◌, ◌≤◌, Bool, eqb, refl, ap, sym, ◌∙◌, inl, inr, arith, add-one}
+use Rattle.std.proofs.Common.{◌≡◌, ℕ, zero, suc, ◌+◌, ◌*◌, ◌/◌, ◌%◌, ◌^◌, ◌<◌, ◌≤◌, min, Bool, eqb, refl, ap, sym, ◌∙◌, inl, inr, arith, add-one}
 use Rattle.std.specs.Prelude.{count_by, bit_and}
 use Rattle.std.specs.List.{range_with_len}
 use Rattle.std.specs.Int.{bit_at}
@@ -7,15 +7,15 @@ use Rattle.std.specs.Int.Count.{ones, ones_step}
 use Rattle.std.proofs.lemmas.Bool.{cases_lt}
 use Rattle.std.proofs.lemmas.Bool.Decides.{eqb_tells}
 use Rattle.std.proofs.lemmas.Nat.{and_mask, pow-add, ones_le_self}
-use Rattle.std.proofs.lemmas.Nat.Bits.{bit_at-lt, bit_at-suc, bit_at_lowest}
-use Rattle.std.proofs.Math.Nat.{div-div-eq-div-mul}
+use Rattle.std.proofs.lemmas.Nat.Bits.{bit_at-lt, bit_at-suc, bit_at_lowest, bit_at_and, bit_at_ones}
+use Rattle.std.proofs.Math.Nat.{div-div-eq-div-mul, mod-eq_of_lt}
 use Rattle.std.proofs.Math.Pow.{field, mod-mod-pow}
 use Rattle.gadget_model.specs.Simulation.{IsWithin}
 use Rattle.list_laws.proofs.Counts.{one_if, count_by-cons, count_by-le, count_by-agree}
 use Rattle.notions.specs.Notions.{shares_of}
 
 -- whether a number has a bit
-abbrev has : ℕ → ℕ → Bool
+abbrev pub has : ℕ → ℕ → Bool
 has m i = eqb (bit_at m i) 1
 
 zero_bit : (b : ℕ) → b < 2 → (b ≡ 1 → ⊥) → 0 ≡ b
@@ -72,3 +72,21 @@ shares_of-within input small large within =
       | inr fails ↦ cc
     ])
     (range_with_len 0 16)
+
+-- a bit that stays
+min_one : (b c : ℕ) → b < 2 → c ≡ 1 → min b c ≡ b
+min_one b c l e = omega arith
+
+-- the bits of what the code counts
+pub bit_at-indices : (set input index : ℕ) → index < 16 → bit_at (bit_and (set / 2 ^ (16 * input)) 65535) index ≡ bit_at set (16 * input + index)
+bit_at-indices set input index l =
+    let n : ℕ = set / 2 ^ (16 * input) in
+    let a : bit_at (bit_and n 65535) index ≡ min (bit_at n index) (bit_at 65535 index) = bit_at_and n 65535 index in
+    let o : bit_at 65535 index ≡ 1 = bit_at_ones 16 index l in
+    let b : bit_at n index < 2 = bit_at-lt n index in
+    let s : bit_at n index ≡ bit_at set (16 * input + index) = bit_at-shift set (16 * input) index in
+    a ∙ min_one (bit_at n index) (bit_at 65535 index) b o ∙ s
+
+-- how many bits a number of 16 has
+pub ones-count : (m : ℕ) → m < 2 ^ 16 → ones m ≡ count_by (has m) (range_with_len 0 16)
+ones-count m small = ap ones (sym (mod-eq_of_lt small)) ∙ ones-mod 16 m

@@ -8,7 +8,7 @@ ghost use Rattle.gadget_model.specs.Simulation.{HasShare};
 ghost use Rattle.tuple_model.specs.Limits.{most_size};
 ghost use Rattle.wire_table.specs.Items.{item_of};
 ghost use Rattle.wire_table.specs.declared.item.ItemKind.TheVariants as kind_of;
-ghost use Rattle.notions.specs.Notions.{Grants, HasAtMost, HasOutput, internal_count, shares_of};
+ghost use Rattle.notions.specs.Notions.{Grants, HasOutput, internal_count, is_internal, shares_of};
 ghost use Rattle.notions.specs.Inside.{HasShareIndex, HasSmallIndex};
 
 use crate::notion::Notion;
@@ -79,11 +79,16 @@ fn internal_count(list: &[Item], tuple: &[u16]) -> u32
 {
     let mut count = 0;
     for &item in tuple {
-        if list[usize::from(item)].kind == ItemKind::Internal {
-            count += 1;
-        }
+        count += u32::from(is_internal(&list[usize::from(item)]));
     }
     count
+}
+
+// Whether an item is no share of an output.
+fn is_internal(item: &Item) -> bool
+    ensures { result ≡ is_internal item.now.kind }
+{
+    matches!(item.kind, ItemKind::Internal)
 }
 
 // The indices of the shares of outputs among a tuple's items, as bits.

@@ -1,10 +1,12 @@
 //! The items of a notion.
 
-ghost use Rattle.std.specs.Prelude.{◌≡◌, ◌<◌, ◌++◌, length, map, IfOk, OnOk, IfSome, option_map};
+ghost use Rattle.std.specs.Prelude.{◌≡◌, ◌<◌, ◌++◌, length, map, IfOk, OnOk};
 ghost use Rattle.std.specs.List.{range_with_len};
 ghost use Rattle.gadget_tree.specs.Gadgets.{IsGadget};
 ghost use Rattle.wire_table.specs.Items.{item_of};
-ghost use Rattle.notions.specs.Items.{items_of, variable_item, column_item, inner_numbers, numbers, output_index};
+ghost use Rattle.notions.specs.Items.{
+    items_of, variable_item, column_item, inner_numbers, numbers, output_index, kind_of
+};
 
 use crate::notion::Notion;
 use gadget_tree::{Gadget, Name};
@@ -18,11 +20,12 @@ pub(crate) fn items_of(alloc: Global, gadget: &Gadget, notion: Notion) -> Result
     ensures { IfOk result (λ items. map item_of items.items ≡ items_of notion gadget.now) }
 {
     let mut items = Vec::new(alloc);
-    if notion == Notion::Pini {
-        extend_inner(alloc, gadget, &mut items)?;
-        extend_columns(alloc, gadget, &mut items)?;
-    } else {
-        extend_variables(alloc, gadget, &mut items)?;
+    match notion {
+        Notion::Ni | Notion::Tni | Notion::Sni => extend_variables(alloc, gadget, &mut items)?,
+        Notion::Pini => {
+            extend_inner(alloc, gadget, &mut items)?;
+            extend_columns(alloc, gadget, &mut items)?;
+        }
     }
     Ok(items)
 }
@@ -68,14 +71,27 @@ fn variable_item(alloc: Global, gadget: &Gadget, var: u16) -> Result<Item, OutOf
     requires { var < length gadget.now.variables }
     ensures { IfOk result (λ item. item_of item ≡ variable_item gadget.now var) }
 {
-    let kind = match gadget.out_of(var) {
-        Some((_, index)) => ItemKind::Output(index),
-        None => ItemKind::Internal,
-    };
     let name = gadget.vars()[usize::from(var)].name.clone()?;
     let mut vars = SmallVec::new(alloc);
     vars.push(var)?;
-    Ok(Item { name, vars, kind, weight: 1 })
+    let kind = kind_of(gadget, var);
+    Ok(Item {
+        name,
+        vars,
+        kind,
+        weight: 1,
+    })
+}
+
+// Whether a variable is a share of an output.
+fn kind_of(gadget: &Gadget, var: u16) -> ItemKind
+    requires { IsGadget gadget.now }
+    ensures { result ≡ kind_of (output_index gadget.now var) }
+{
+    match gadget.out_of(var) {
+        Some((_, index)) => ItemKind::Output(index),
+        None => ItemKind::Internal,
+    }
 }
 
 // The shares with this index of all outputs as an item.

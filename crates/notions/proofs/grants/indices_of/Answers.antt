@@ -1,0 +1,11 @@
+use Rattle.std.proofs.Common.{sym, ◌∙◌}
+use Rattle.notions.proofs.ShareCounts.{ones-shares, bit_at-indices}
+use Rattle.notions.proofs.grants.indices_of.Goals as goal
+
+pub returns-clause-count : goal.returns-clause-count
+returns-clause-count c = ones-shares c.args.set c.args.input
+
+pub returns-clause-indices : goal.returns-clause-indices
+returns-clause-indices c = λ index l.
+    let e = bit_at-indices c.args.set c.args.input index l in
+    (λ h. sym e ∙ h, λ h. e ∙ h)

@@ -1,0 +1,10 @@
+use Rattle.std.proofs.Common.{◌≡◌, ◌*◌, ◌≤◌, length, map, take}
+use Rattle.wire_table.specs.Items.{item_of}
+use Rattle.notions.specs.Notions.{variables_in}
+use Rattle.notions.proofs.scratch.put_vars.Given as goal
+
+abbrev pub invariant-loop-item : goal.invariant-loop-item
+invariant-loop-item l = record {
+  vars : l.vars.items ≡ variables_in (map item_of l.list) (take l.item-index l.tuple);
+  few : length l.vars.items ≤ 2 * l.item-index;
+}
