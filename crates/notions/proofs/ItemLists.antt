@@ -1,5 +1,5 @@
 -- The items of a notion are few, and each fits what the test works in.
-use Rattle.std.proofs.Common.{◌≡◌, ◌≢◌, ◌+◌, ◌*◌, ◌<◌, ◌≤◌, ℕ, Bool, true, List, [], ◌∷◌, ◌++◌, map, length, get_or, refl, ap, sym, ◌∙◌, subst, inl, inr, arith, Contains, Option, Some, None, length-append}
+use Rattle.std.proofs.Common.{◌≡◌, ◌≢◌, ◌⊎◌, ◌+◌, ◌*◌, ◌<◌, ◌≤◌, ℕ, Bool, true, List, [], ◌∷◌, ◌++◌, map, length, get_or, refl, ap, sym, ◌∙◌, subst, inl, inr, arith, Contains, Option, Some, None, length-append}
 use Rattle.std.specs.Prelude.{is_none}
 use Rattle.std.specs.List.{All, AllPairs, filter, range_with_len}
 use Rattle.std.proofs.Math.ListN.{length-map}
@@ -138,3 +138,16 @@ module _ (g : Circuit) (is : IsGadget g) where
       let k = le-mul_of_pos_right {m = length g.outputs} g.shares (omega arith) in
       let o = mul_comm g.shares (length g.outputs) in
       omega arith
+
+-- what the two kinds of lists are
+pub items_of-inner : (notion : Notion) (g : Circuit) (items : List Item) → notion ≡ Pini →
+    items ≡ ([] ++ map (variable_item g) (inner_numbers g)) ++ map (column_item g) (range_with_len 0 g.shares) → items ≡ items_of notion g
+unfolding items_of
+items_of-inner notion g items is e = e ∙ ap (λ (n : Notion). items_of n g) (sym is)
+
+pub items_of-all : (notion : Notion) (g : Circuit) (items : List Item) → (notion ≡ Ni) ⊎ ((notion ≡ Tni) ⊎ (notion ≡ Sni)) →
+    items ≡ [] ++ map (variable_item g) (numbers g) → items ≡ items_of notion g
+unfolding items_of
+items_of-all notion g items (inl is) e = e ∙ ap (λ (n : Notion). items_of n g) (sym is)
+items_of-all notion g items (inr (inl is)) e = e ∙ ap (λ (n : Notion). items_of n g) (sym is)
+items_of-all notion g items (inr (inr is)) e = e ∙ ap (λ (n : Notion). items_of n g) (sym is)

@@ -7,3 +7,4 @@ pub mod ItemReads
 pub mod OutputPlaces
 pub mod ItemLists
 pub mod Asked
+mod Examples
