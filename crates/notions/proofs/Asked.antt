@@ -1,6 +1,6 @@
 -- What a query knows of the tuple that it is asked about.
-use Rattle.std.proofs.Common.{◌≡◌, ℕ, ◌<◌, ◌≤◌, Bool, true, false, not, List, length, map, get_or, ap, sym, ◌∙◌, arith, subst, ◌↔◌, inl, inr}
-use Rattle.std.specs.Prelude.{IsTrue, All, Contains}
+use Rattle.std.proofs.Common.{◌≡◌, ℕ, ◌<◌, ◌≤◌, Bool, false, not, List, length, map, get_or, ap, sym, ◌∙◌, arith, subst, ◌↔◌}
+use Rattle.std.specs.Prelude.{IsTrue, All}
 use Rattle.std.proofs.Math.ListN.{length-map}
 use Rattle.std.proofs.lemmas.Bool.{not-true, not-false, false≢true}
 use Rattle.std.proofs.lemmas.List.Elements.{Contains-get_or}
@@ -17,7 +17,7 @@ use Rattle.notions.specs.declared.query.NotionQuery.TheInside.{Inside}
 use Rattle.notions.specs.Inside.{question_of, IsPrepared, HasFewVariables, HasVariablesBelow, HasSmallIndex}
 use Rattle.notions.specs.Items.{items_of}
 use Rattle.notions.specs.Questions.{NotionQuestion, FailsFor, items_asked}
-use Rattle.notions.specs.Notions.{Grants, Fails, Passes, variables_in}
+use Rattle.notions.specs.Notions.{Grants, Passes, variables_in}
 use Rattle.notions.proofs.Granted.{Passes-least, Fails-least, not_Fails-from_Passes}
 
 -- the set is the least from which the variables of a tuple's items can be simulated, whatever gadget the table stands for

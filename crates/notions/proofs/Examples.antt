@@ -1,13 +1,12 @@
 -- The items and the notions on small gadgets, which the definitions compute.
-use Rattle.std.proofs.Common.{◌≡◌, ◌<◌, ◌≤◌, ℕ, zero, suc, Bool, true, false, List, [], ◌∷◌, ◌++◌, map, length, refl, inl, inr, arith, Contains}
+use Rattle.std.proofs.Common.{◌≡◌, ℕ, zero, suc, List, [], ◌∷◌, ◌++◌, refl, inl, inr, arith, Contains}
 use Rattle.std.specs.Prelude.{codes, decimal}
 use Rattle.list_laws.proofs.Members.{Contains-cons_cases}
 use Rattle.gadget_model.specs.Circuit.{Circuit, share, random, sum_of}
 use Rattle.wire_table.specs.Items.{Item}
 use Rattle.wire_table.specs.declared.item.ItemKind.{ItemKind}
 use Rattle.wire_table.specs.declared.item.ItemKind.TheVariants.{Internal, Output}
-use Rattle.notions.specs.declared.notion.Notion.{Notion}
-use Rattle.notions.specs.declared.notion.Notion.TheVariants.{Ni, Tni, Sni, Pini}
+use Rattle.notions.specs.declared.notion.Notion.TheVariants.{Ni, Sni, Pini}
 use Rattle.notions.specs.Items.{items_of}
 use Rattle.notions.specs.Notions.{variables_in, internal_count, shares_of, kind_at, Grants}
 
@@ -35,20 +34,20 @@ item name variables kind = record { name = name; variables = variables; kind = k
 -- each variable is an item, and says which share of an output it is
 items_of-ni : items_of Ni two
     ≡ item (codes "a0") (0 ∷ []) (Output 0)
-      ∷ item (codes "a1") (1 ∷ []) (Output 1)
-      ∷ item (codes "r") (2 ∷ []) Internal
-      ∷ item (codes "c0") (3 ∷ []) (Output 0)
-      ∷ item (codes "c1") (4 ∷ []) (Output 1)
-      ∷ []
+    ∷ item (codes "a1") (1 ∷ []) (Output 1)
+    ∷ item (codes "r") (2 ∷ []) Internal
+    ∷ item (codes "c0") (3 ∷ []) (Output 0)
+    ∷ item (codes "c1") (4 ∷ []) (Output 1)
+    ∷ []
 unfolding items_of
 items_of-ni = refl
 
 -- PINI has what is no share of an output, and then the columns
 items_of-pini : items_of Pini two
     ≡ item (codes "r") (2 ∷ []) Internal
-      ∷ item (codes "*" ++ decimal 0) (3 ∷ 0 ∷ []) (Output 0)
-      ∷ item (codes "*" ++ decimal 1) (4 ∷ 1 ∷ []) (Output 1)
-      ∷ []
+    ∷ item (codes "*" ++ decimal 0) (3 ∷ 0 ∷ []) (Output 0)
+    ∷ item (codes "*" ++ decimal 1) (4 ∷ 1 ∷ []) (Output 1)
+    ∷ []
 unfolding items_of
 items_of-pini = refl
 

@@ -1,11 +1,11 @@
 -- What a notion grants passes to smaller sets, so that the least set of input shares decides whether a tuple fails.
-use Rattle.std.proofs.Common.{◌≡◌, ◌↔◌, ◌+◌, ◌*◌, ◌<◌, ◌≤◌, ℕ, List, length, inl, inr, arith}
+use Rattle.std.proofs.Common.{◌↔◌, ◌+◌, ◌*◌, ◌≤◌, ℕ, List, length, inl, inr, arith}
 use Rattle.gadget_model.specs.Circuit.{Circuit}
 use Rattle.gadget_model.specs.Simulation.{IsWithin, IsSimulatable}
 use Rattle.wire_table.specs.Items.{Item}
 use Rattle.notions.specs.declared.notion.Notion.{Notion}
 use Rattle.notions.specs.declared.notion.Notion.TheVariants.{Ni, Tni, Sni, Pini}
-use Rattle.notions.specs.Notions.{HasAtMost, Grants, Fails, Passes, variables_in, shares_of, internal_count}
+use Rattle.notions.specs.Notions.{HasAtMost, Grants, Fails, Passes, variables_in, internal_count}
 use Rattle.notions.proofs.ShareCounts.{shares_of-within}
 
 HasAtMost-within : (g : Circuit) (most small large : ℕ) → IsWithin small large → HasAtMost g most large → HasAtMost g most small

@@ -1,5 +1,5 @@
 -- Sets of indices as bits: of one index, of a union, and of more inputs or items.
-use Rattle.std.proofs.Common.{◌≡◌, ◌↔◌, ◌⊎◌, ◌+◌, ◌*◌, ◌%◌, ◌^◌, ◌<◌, ◌≤◌, ℕ, max, List, [], ◌∷◌, map, length, get_or, take, refl, ap, sym, ◌∙◌, subst, inl, inr, arith, Contains, bit_or}
+use Rattle.std.proofs.Common.{◌≡◌, ◌↔◌, ◌⊎◌, ◌+◌, ◌*◌, ◌%◌, ◌^◌, ◌<◌, ℕ, max, List, [], ◌∷◌, length, get_or, take, ap, sym, ◌∙◌, subst, inl, inr, arith, Contains, bit_or}
 use Rattle.std.specs.Int.{bit_at}
 use Rattle.std.proofs.lemmas.Bool.{cases_eq}
 use Rattle.std.proofs.lemmas.List.{take_more}
@@ -7,11 +7,10 @@ use Rattle.std.proofs.lemmas.List.Elements.{Contains-append_left, Contains-push,
 use Rattle.std.proofs.lemmas.Nat.Bits.{bit_at-lt, bit_at_or, bit_at-zero, bit_at-pow_same, bit_at-pow_other}
 use Rattle.std.proofs.Math.Nat.{mod-eq_of_lt}
 use Rattle.std.proofs.Math.Pow.{pow-lt}
-use Rattle.gadget_limits.specs.Limits.{most_shares}
 use Rattle.gadget_model.specs.Simulation.{HasShare}
 use Rattle.wire_table.specs.Items.{Item}
 use Rattle.wire_table.specs.declared.item.ItemKind.{ItemKind}
-use Rattle.wire_table.specs.declared.item.ItemKind.TheVariants.{Internal, Output}
+use Rattle.wire_table.specs.declared.item.ItemKind.TheVariants.{Output}
 use Rattle.notions.specs.Inside.{HasShareIndex, IsSmallKind}
 use Rattle.notions.specs.Notions.{HasOutput, kind_at}
 

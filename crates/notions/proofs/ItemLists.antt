@@ -1,21 +1,18 @@
 -- The items of a notion are few, and each fits what the test works in.
-use Rattle.std.proofs.Common.{◌≡◌, ◌≢◌, ◌⊎◌, ◌+◌, ◌*◌, ◌<◌, ◌≤◌, ℕ, Bool, true, List, [], ◌∷◌, ◌++◌, map, length, get_or, refl, ap, sym, ◌∙◌, subst, inl, inr, arith, Contains, Option, Some, None, length-append}
+use Rattle.std.proofs.Common.{◌≡◌, ◌≢◌, ◌⊎◌, ◌+◌, ◌*◌, ◌<◌, ◌≤◌, ℕ, Bool, true, List, [], ◌++◌, map, length, get_or, refl, ap, sym, ◌∙◌, subst, inl, inr, arith, Contains, Option, Some, None, length-append}
 use Rattle.std.specs.Prelude.{is_none}
-use Rattle.std.specs.List.{All, AllPairs, filter, range_with_len}
+use Rattle.std.specs.List.{All, range_with_len}
 use Rattle.std.proofs.Math.ListN.{length-map}
 use Rattle.std.proofs.Math.Nat.{mul_comm, le-mul_of_pos_right}
 use Rattle.std.proofs.lemmas.List.FromFn.{length-range_with_len}
-use Rattle.std.proofs.lemmas.List.Elements.{All-append, All-cons, All-nil, All-map, All-contains, All-contains_itself, All-weaker, All-filter, Contains-get_or, Contains-append_cases}
+use Rattle.std.proofs.lemmas.List.Elements.{All-append, All-cons, All-nil, All-map, All-contains, All-contains_itself, All-weaker, All-filter, Contains-append_cases}
 use Rattle.std.proofs.lemmas.List.Kept.{AllPairs-filter}
-use Rattle.gadget_limits.specs.Limits.{most_shares, most_outputs, most_variables}
 use Rattle.gadget_model.specs.Circuit.{Circuit}
 use Rattle.gadget_tree.specs.Gadgets.{IsGadget}
 use Rattle.list_laws.proofs.Members.{AllPairs-append}
 use Rattle.list_laws.proofs.Once.{Once, Contains-from_filter}
 use Rattle.tuple_model.specs.Limits.{most_items}
 use Rattle.wire_table.specs.Items.{Item}
-use Rattle.wire_table.specs.declared.item.ItemKind.{ItemKind}
-use Rattle.wire_table.specs.declared.item.ItemKind.TheVariants.{Internal, Output}
 use Rattle.wire_table.proofs.Pigeonhole.{length-le}
 use Rattle.notions.specs.declared.notion.Notion.{Notion}
 use Rattle.notions.specs.declared.notion.Notion.TheVariants.{Ni, Tni, Sni, Pini}
@@ -57,7 +54,7 @@ module _ (g : Circuit) (is : IsGadget g) where
         there = All-map (λ v. v < length g.variables) at outputs
             (All-weaker (Contains outputs) (λ output. at output < length g.variables)
             (λ output c. is.outputs_exist (g.shares * output + index) 0
-                (place-lt g.shares (length g.outputs) output index (length g.output_shares) is.all_outputs (lt-from_range (length g.outputs) output c) l))
+            (place-lt g.shares (length g.outputs) output index (length g.output_shares) is.all_outputs (lt-from_range (length g.outputs) output c) l))
             outputs (All-contains_itself outputs));
         index = let m = is.few_shares in omega arith;
       }

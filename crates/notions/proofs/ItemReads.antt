@@ -1,5 +1,5 @@
 -- What an item of the code's list is among the items that it stands for, and lists with one item more.
-use Rattle.std.proofs.Common.{◌≡◌, ◌+◌, ◌*◌, ◌<◌, ◌≤◌, ℕ, Bool, true, false, cond, List, [], ◌∷◌, ◌++◌, map, length, get_or, take, refl, ap, sym, ◌∙◌, subst, arith, append_assoc, append-nil, map-id, length-append}
+use Rattle.std.proofs.Common.{◌≡◌, ◌+◌, ◌<◌, ◌≤◌, ℕ, Bool, true, false, List, [], ◌∷◌, ◌++◌, map, length, get_or, take, refl, ap, sym, ◌∙◌, subst, arith, append_assoc, append-nil, map-id}
 use Rattle.std.specs.Prelude.{flat_map}
 use Rattle.std.specs.Int.{from_bool}
 use Rattle.std.specs.List.{All, filter, range_with_len}
@@ -10,7 +10,6 @@ use Rattle.std.proofs.lemmas.List.FromFn.{map-range_with_len_more}
 use Rattle.std.proofs.lemmas.List.Elements.{filter-append, All-nil, All-head, All-tail, All-append}
 use Rattle.std.proofs.lemmas.List.Sums.{sum_by_more}
 use Rattle.std.proofs.lemmas.Bool.{cond-true, cond-false}
-use Rattle.gadget_limits.specs.Limits.{most_outputs}
 use Rattle.gadget_model.specs.Circuit.{Circuit, Variable}
 use Rattle.gadget_tree.specs.declared.var.Var.{Var}
 use Rattle.gadget_tree.specs.Seen.{variable_of, variables_of}
@@ -19,7 +18,7 @@ use Rattle.wire_table.specs.Items.{Item, item_of}
 use Rattle.wire_table.specs.declared.item.Item as code
 use Rattle.wire_table.specs.declared.item.ItemKind.{ItemKind}
 use Rattle.wire_table.specs.declared.item.ItemKind.TheVariants.{Internal}
-use Rattle.notions.specs.Inside.{HasFewVariables, HasVariablesBelow}
+use Rattle.notions.specs.Inside.{HasVariablesBelow}
 use Rattle.list_laws.proofs.Counts.{one_if}
 use Rattle.notions.specs.Items.{kind_of, output_index, variable_item}
 use Rattle.notions.specs.Notions.{kind_at, variables_in, internal_count, is_internal}
@@ -132,7 +131,7 @@ name_at-list vars variables i x n are l e =
     let j : i < length vars = let a = length-map vars variable_of in omega arith in
     e
     ∙ sym (get_or-map (λ (v : Variable). v.name) (variables_of vars) i (variable_of x) [] k
-      ∙ ap (λ (v : Variable). v.name) (get_or-map variable_of vars i x (variable_of x) j))
+    ∙ ap (λ (v : Variable). v.name) (get_or-map variable_of vars i x (variable_of x) j))
     ∙ ap (λ (vs : List Variable). name_at vs i) are
 
 -- an item of one variable

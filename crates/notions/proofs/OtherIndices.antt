@@ -1,5 +1,5 @@
 -- Whether few enough indices are left, by a count of bits and by a list of indices.
-use Rattle.std.proofs.Common.{◌≡◌, ◌≢◌, ◌↔◌, ◌⊎◌, ◌+◌, ◌-◌, ◌*◌, ◌^◌, ◌<◌, ◌≤◌, ℕ, min, Bool, true, eqb, leb, List, length, refl, ap, sym, ◌∙◌, subst, inl, inr, arith, Contains, w16}
+use Rattle.std.proofs.Common.{◌≡◌, ◌≢◌, ◌↔◌, ◌-◌, ◌^◌, ◌<◌, ◌≤◌, ℕ, min, true, leb, List, length, sym, ◌∙◌, inl, inr, arith, Contains, w16}
 use Rattle.std.specs.Prelude.{IsTrue, bit_and}
 use Rattle.std.specs.Int.{bit_at, bit_not}
 use Rattle.std.specs.Int.Count.{ones}
@@ -67,12 +67,16 @@ module _ (g : Circuit) (items : List Item) (tuple : List ℕ) (inputs set indice
 
   -- few bits are left: they are the other indices
   indices-from_ones : ones others ≤ most → (list : List ℕ) × (length list ≤ most) × HasIndicesIn g items tuple list set
-  indices-from_ones few = (places others, omega (arith, length-places others others-small), λ input index l m h.
-      let there : HasShare indices index = (are index m).1 (input, omega arith, h) in
-      elim (cases_eq (bit_at outputs index) 1) [
-        | inl out ↦ inl ((are_outputs index).0 out)
-        | inr other ↦ inr (Contains-places others index m (has-without indices outputs index small_outputs m there other))
-      ])
+  indices-from_ones few = (
+    places others,
+    omega (arith, length-places others others-small),
+    λ input index l m h.
+        let there : HasShare indices index = (are index m).1 (input, omega arith, h) in
+        elim (cases_eq (bit_at outputs index) 1) [
+          | inl out ↦ inl ((are_outputs index).0 out)
+          | inr other ↦ inr (Contains-places others index m (has-without indices outputs index small_outputs m there other))
+        ],
+  )
 
   -- a list of few other indices has all bits that are left
   ones-from_indices : (list : List ℕ) → length list ≤ most → HasIndicesIn g items tuple list set → ones others ≤ most

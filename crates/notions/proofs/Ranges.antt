@@ -1,12 +1,11 @@
 -- The numbers below a bound, and those of them that pass a test.
-use Rattle.std.proofs.Common.{◌≡◌, ◌≢◌, ◌+◌, ◌<◌, ◌≤◌, ℕ, zero, suc, Bool, true, List, [], ◌∷◌, length, refl, ap, sym, ◌∙◌, subst, inl, inr, arith, Contains}
-use Rattle.std.specs.List.{filter, range_with_len, AllPairs}
+use Rattle.std.proofs.Common.{◌≡◌, ◌<◌, ℕ, Bool, true, List, [], ◌∷◌, ap, sym, ◌∙◌, subst, inl, inr, arith, Contains}
+use Rattle.std.specs.List.{filter, range_with_len}
 use Rattle.std.proofs.lemmas.Bool.{false≢true, cond_both}
 use Rattle.std.proofs.lemmas.List.FromFn.{length-range_with_len, get_or-range_with_len}
 use Rattle.std.proofs.lemmas.List.Elements.{All-contains, filter_passes}
-use Rattle.std.proofs.lemmas.List.Kept.{AllPairs-filter}
 use Rattle.list_laws.proofs.Members.{Contains-cons_head, Contains-cons_tail, Contains-cons_cases}
-use Rattle.list_laws.proofs.Once.{Once, Contains-nil, Contains-from_filter}
+use Rattle.list_laws.proofs.Once.{Once}
 
 -- the numbers below a bound
 pub Contains-range : (n i : ℕ) → i < n → Contains (range_with_len 0 n) i

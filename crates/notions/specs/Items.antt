@@ -7,7 +7,7 @@ use Rattle.wire_table.specs.Items.{Item}
 use Rattle.wire_table.specs.declared.item.ItemKind.{ItemKind}
 use Rattle.wire_table.specs.declared.item.ItemKind.TheVariants.{Internal, Output}
 use Rattle.notions.specs.declared.notion.Notion.{Notion}
-use Rattle.notions.specs.declared.notion.Notion.TheVariants.{Ni, Tni, Sni, Pini}
+use Rattle.notions.specs.declared.notion.Notion.TheVariants.{Pini}
 
 -- the index of the share of an output that a variable is, where it is one
 abbrev pub output_index : Circuit → ℕ → Option ℕ

@@ -1,9 +1,8 @@
 -- The question whether sets of probes break a notion.
-use Rattle.std.specs.Prelude.{◌≡◌, ℕ, ◌≤◌, ◌<◌, List, length, map, All}
-use Rattle.tuple_model.specs.Limits.{most_size}
+use Rattle.std.specs.Prelude.{ℕ, List}
 use Rattle.gadget_model.specs.Circuit.{Circuit}
-use Rattle.wire_table.specs.Tables.{Table, StandsFor}
-use Rattle.wire_table.specs.Items.{Item, item_of}
+use Rattle.wire_table.specs.Tables.{Table}
+use Rattle.wire_table.specs.Items.{Item}
 use Rattle.notions.specs.declared.notion.Notion.{Notion}
 use Rattle.notions.specs.Items.{items_of}
 use Rattle.notions.specs.Notions.{Fails}

@@ -7,7 +7,7 @@ ghost use Rattle.gadget_model.specs.Circuit.{Circuit};
 ghost use Rattle.gadget_model.specs.Simulation.{HasShare};
 ghost use Rattle.tuple_model.specs.Limits.{most_size};
 ghost use Rattle.wire_table.specs.Items.{item_of};
-ghost use Rattle.wire_table.specs.declared.item.ItemKind.TheVariants as kind_of;
+ghost use Rattle.wire_table.specs.declared.item.ItemKind.TheVariants.{Output};
 ghost use Rattle.notions.specs.Notions.{Grants, HasOutput, internal_count, is_internal, shares_of};
 ghost use Rattle.notions.specs.Inside.{HasShareIndex, HasSmallIndex};
 
@@ -107,7 +107,7 @@ fn output_indices(list: &[Item], tuple: &[u16]) -> u16
 // The index of the share of an output that an item is, as a bit.
 fn index_bit(item: &Item) -> u16
     requires { HasSmallIndex (item_of item.now) }
-    ensures { (index : ℕ) → HasShare result index ↔ (item.now.kind ≡ kind_of.Output index) }
+    ensures { (index : ℕ) → HasShare result index ↔ (item.now.kind ≡ Output index) }
 {
     match item.kind {
         ItemKind::Internal => 0,

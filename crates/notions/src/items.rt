@@ -5,7 +5,13 @@ ghost use Rattle.std.specs.List.{range_with_len};
 ghost use Rattle.gadget_tree.specs.Gadgets.{IsGadget};
 ghost use Rattle.wire_table.specs.Items.{item_of};
 ghost use Rattle.notions.specs.Items.{
-    items_of, variable_item, column_item, inner_numbers, numbers, output_index, kind_of
+  items_of,
+  variable_item,
+  column_item,
+  inner_numbers,
+  numbers,
+  output_index,
+  kind_of,
 };
 
 use crate::notion::Notion;
@@ -16,7 +22,11 @@ use std::alloc::Global;
 use wire_table::{Item, ItemKind};
 
 /// The items of a notion on a gadget, in order.
-pub(crate) fn items_of(alloc: Global, gadget: &Gadget, notion: Notion) -> Result<Vec<Item>, OutOfMemory>
+pub(crate) fn items_of(
+    alloc: Global,
+    gadget: &Gadget,
+    notion: Notion,
+) -> Result<Vec<Item>, OutOfMemory>
     ensures { IfOk result (λ items. map item_of items.items ≡ items_of notion gadget.now) }
 {
     let mut items = Vec::new(alloc);
@@ -31,7 +41,11 @@ pub(crate) fn items_of(alloc: Global, gadget: &Gadget, notion: Notion) -> Result
 }
 
 // Adds each variable.
-fn extend_variables(alloc: Global, gadget: &Gadget, items: &mut Vec<Item>) -> Result<(), OutOfMemory>
+fn extend_variables(
+    alloc: Global,
+    gadget: &Gadget,
+    items: &mut Vec<Item>,
+) -> Result<(), OutOfMemory>
     ensures { OnOk result
         (map item_of items.new.items ≡ map item_of items.old.items ++ map (variable_item gadget.now) (numbers gadget.now)) }
 {
@@ -58,7 +72,7 @@ fn extend_inner(alloc: Global, gadget: &Gadget, items: &mut Vec<Item>) -> Result
 fn extend_columns(alloc: Global, gadget: &Gadget, items: &mut Vec<Item>) -> Result<(), OutOfMemory>
     ensures { OnOk result
         (map item_of items.new.items
-            ≡ map item_of items.old.items ++ map (column_item gadget.now) (range_with_len 0 gadget.now.shares)) }
+        ≡ map item_of items.old.items ++ map (column_item gadget.now) (range_with_len 0 gadget.now.shares)) }
 {
     for index in 0..gadget.shares() {
         items.push(column_item(alloc, gadget, index)?)?;

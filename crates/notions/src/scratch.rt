@@ -34,7 +34,10 @@ impl<'g> Model for NotionScratch<'g> {
 
 impl<'g> NotionScratch<'g> {
     /// A scratch for a table.
-    pub(crate) fn make(alloc: Global, table: &'g WireTable) -> Result<NotionScratch<'g>, OutOfMemory>
+    pub(crate) fn make(
+        alloc: Global,
+        table: &'g WireTable,
+    ) -> Result<NotionScratch<'g>, OutOfMemory>
         ensures { IfOk result (λ scratch. scratch ≡ table.now) }
     {
         Ok(NotionScratch {

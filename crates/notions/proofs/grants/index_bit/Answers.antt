@@ -1,7 +1,3 @@
-use Rattle.std.proofs.Common.{ℕ, ◌<◌, ◌*◌, ◌^◌, ◌%◌, sym, subst, ap, ◌∙◌, arith, ◌≡◌, ◌↔◌}
-use Rattle.gadget_model.specs.Simulation.{HasShare}
-use Rattle.wire_table.specs.declared.item.ItemKind.TheVariants.{Output}
-use Rattle.notions.specs.Inside.{IsSmallKind}
 use Rattle.notions.proofs.IndexBits.{shifted_bit}
 use Rattle.notions.proofs.grants.index_bit.Goals as goal
 

@@ -1,4 +1,4 @@
-use Rattle.std.proofs.Common.{◌≡◌, ◌↔◌, ℕ, List, ap, sym, ◌∙◌, arith, map, subst, length}
+use Rattle.std.proofs.Common.{◌≡◌, ◌↔◌, ℕ, List, ap, sym, ◌∙◌, arith, map, subst}
 use Rattle.std.proofs.lemmas.List.{take_all}
 use Rattle.gadget_model.specs.Simulation.{HasShare}
 use Rattle.wire_table.specs.Items.{item_of}

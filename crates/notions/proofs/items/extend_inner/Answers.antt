@@ -1,4 +1,4 @@
-use Rattle.std.proofs.Common.{◌≡◌, ℕ, map, ap, sym, ◌∙◌}
+use Rattle.std.proofs.Common.{ℕ, map, ◌∙◌}
 use Rattle.std.specs.Prelude.{is_none}
 use Rattle.wire_table.specs.Items.{item_of}
 use Rattle.notions.specs.Items.{variable_item, output_index}
@@ -19,6 +19,6 @@ loop-var-preserved c =
       | then-is_none+in_ok-variable_item+in_ok-push w ↦
           rw (w.items-is)
           (push_kept f before n p c.loop-var.items.items w.push.new.self.items w.in_ok-variable_item.field-0 (inner ∙ w.if-is_none.true) c.loop-var.invariant
-            w.in_ok-variable_item.ensures w.in_ok-push.ensures.items)
+          w.in_ok-variable_item.ensures w.in_ok-push.ensures.items)
       | else-is_none w ↦ rw (w.items-is) (skip_left f before n p c.loop-var.items.items (inner ∙ w.if-is_none.false) c.loop-var.invariant)
     ]

@@ -1,4 +1,4 @@
-use Rattle.std.proofs.Common.{◌≡◌, ℕ, List, [], ◌∷◌, ◌++◌, ap, sym, ◌∙◌, arith, refl}
+use Rattle.std.proofs.Common.{◌≡◌, ℕ, List, [], ◌∷◌, ◌++◌, ap, ◌∙◌, arith, refl}
 use Rattle.gadget_tree.specs.Variables.{name_at}
 use Rattle.notions.proofs.ItemReads.{same_item, name_at-list}
 use Rattle.notions.proofs.items.variable_item.Goals as goal

@@ -1,4 +1,4 @@
-use Rattle.std.proofs.Common.{◌≡◌, ◌≤◌, ◌++◌, ℕ, ap, sym, ◌∙◌, arith, map, length, get_or, [], length-append}
+use Rattle.std.proofs.Common.{◌≡◌, ◌++◌, ℕ, ap, sym, ◌∙◌, arith, map, length, get_or, [], length-append}
 use Rattle.std.proofs.lemmas.Result.{IfOk-at_ok}
 use Rattle.wire_table.specs.Items.{Item, item_of}
 use Rattle.wire_table.specs.declared.item.Item as code
@@ -30,6 +30,6 @@ loop-item-preserved c =
       vars =
           new
           ∙ variables_in-more items c.args.tuple.now c.loop-item.item-index c.loop-item.vars.items c.as_slice-more.result.now c.loop-item-test.true
-            c.loop-item.invariant.vars (ap (λ (i : ℕ). get_or (map (λ (x : Item). x.variables) items) i []) (sym c.from.ensures) ∙ at ∙ sym more);
+          c.loop-item.invariant.vars (ap (λ (i : ℕ). get_or (map (λ (x : Item). x.variables) items) i []) (sym c.from.ensures) ∙ at ∙ sym more);
       few = let a = ap length new in let b = length-append c.loop-item.vars.items c.as_slice-more.result.now in let d = ap length more in omega arith;
     }

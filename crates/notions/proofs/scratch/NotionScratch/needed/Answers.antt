@@ -1,6 +1,5 @@
-use Rattle.std.proofs.Common.{◌<◌, ℕ, List, sym, ◌∙◌, map, length, subst}
+use Rattle.std.proofs.Common.{◌<◌, sym, ◌∙◌, map, length, subst}
 use Rattle.std.specs.List.{All}
-use Rattle.std.proofs.Math.ListN.{length-map}
 use Rattle.wire_table.specs.Items.{item_of}
 use Rattle.wire_table.specs.Tables.{Table}
 use Rattle.notions.specs.Inside.{HasVariablesBelow}
