@@ -1,11 +1,12 @@
 -- The fields of a query as a question, and what holds of the items that it keeps.
-use Rattle.std.specs.Prelude.{◌≡◌, ℕ, ◌+◌, ◌*◌, ◌<◌, ◌≤◌, length, map, All}
+use Rattle.std.specs.Prelude.{◌≡◌, ℕ, ◌+◌, ◌*◌, ◌<◌, ◌≤◌, List, ◌++◌, length, map, All}
 use Rattle.gadget_limits.specs.Limits.{most_outputs, most_shares}
 use Rattle.gadget_model.specs.Simulation.{HasShare}
 use Rattle.gadget_tree.specs.Gadgets.{IsGadget}
 use Rattle.tuple_model.specs.Limits.{most_items, most_size}
 use Rattle.wire_table.specs.Tables.{StandsFor}
 use Rattle.wire_table.specs.Items.{Item, item_of}
+use Rattle.wire_table.specs.declared.item.Item as code
 use Rattle.wire_table.specs.declared.item.ItemKind.{ItemKind}
 use Rattle.wire_table.specs.declared.item.ItemKind.TheVariants.{Internal, Output}
 use Rattle.notions.specs.declared.query.NotionQuery.TheInside.{Inside}
@@ -34,6 +35,10 @@ HasSmallIndex item = IsSmallKind item.kind
 -- a set has the share with an index of some of so many inputs
 abbrev pub HasShareIndex : ℕ → ℕ → ℕ → Type 0
 HasShareIndex inputs set index = (input : ℕ) × (input < inputs) × HasShare set (16 * input + index)
+
+-- a list got these items more, at its end
+abbrev pub GetsItems : List code.Item → List Item → List code.Item → Type 0
+GetsItems before more after = map item_of after ≡ map item_of before ++ more
 
 -- The table stands for the gadget, the order is small, and the items are those of the notion. They are few, and each
 -- fits what the test works in.

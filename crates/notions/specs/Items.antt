@@ -33,7 +33,8 @@ abbrev pub column_item : Circuit → ℕ → Item
 column_item g index = record {
   name = codes "*" ++ decimal index;
   variables =
-      map (λ output. slice_index_or g.output_shares (g.shares * output + index) 0) (range_with_len 0 (length g.outputs));
+      map (λ output. slice_index_or g.output_shares (g.shares * output + index) 0)
+      (range_with_len 0 (length g.outputs));
   kind = Output index;
   weight = 1;
 }
@@ -46,7 +47,8 @@ numbers g = range_with_len 0 (length g.variables)
 abbrev pub inner_numbers : Circuit → List ℕ
 inner_numbers g = filter (λ v. is_none (output_index g v)) (numbers g)
 
--- PINI asks of the variables that are no shares of outputs, and then of the columns; the other notions of each variable.
+-- PINI asks of the variables that are no shares of outputs, and then of the columns; the other notions of each
+-- variable.
 unfoldable pub items_of : Notion → Circuit → List Item
 items_of Pini g = map (variable_item g) (inner_numbers g) ++ map (column_item g) (range_with_len 0 g.shares)
 items_of _ g = map (variable_item g) (numbers g)

@@ -1,18 +1,12 @@
 //! The items of a notion.
 
-ghost use Rattle.std.specs.Prelude.{◌≡◌, ◌<◌, ◌++◌, length, map, IfOk, OnOk};
+ghost use Rattle.std.specs.Prelude.{◌≡◌, ◌<◌, length, map, IfOk, OnOk};
 ghost use Rattle.std.specs.List.{range_with_len};
 ghost use Rattle.gadget_tree.specs.Gadgets.{IsGadget};
 ghost use Rattle.wire_table.specs.Items.{item_of};
-ghost use Rattle.notions.specs.Items.{
-  items_of,
-  variable_item,
-  column_item,
-  inner_numbers,
-  numbers,
-  output_index,
-  kind_of,
-};
+ghost use Rattle.notions.specs.Items.{items_of, variable_item, column_item, kind_of};
+ghost use Rattle.notions.specs.Items.{inner_numbers, numbers, output_index};
+ghost use Rattle.notions.specs.Inside.{GetsItems};
 
 use crate::notion::Notion;
 use gadget_tree::{Gadget, Name};
@@ -47,7 +41,7 @@ fn extend_variables(
     items: &mut Vec<Item>,
 ) -> Result<(), OutOfMemory>
     ensures { OnOk result
-        (map item_of items.new.items ≡ map item_of items.old.items ++ map (variable_item gadget.now) (numbers gadget.now)) }
+        (GetsItems items.old.items (map (variable_item gadget.now) (numbers gadget.now)) items.new.items) }
 {
     for var in 0..gadget.vars().len() as u16 {
         items.push(variable_item(alloc, gadget, var)?)?;
@@ -58,7 +52,7 @@ fn extend_variables(
 // Adds each variable that is no share of an output.
 fn extend_inner(alloc: Global, gadget: &Gadget, items: &mut Vec<Item>) -> Result<(), OutOfMemory>
     ensures { OnOk result
-        (map item_of items.new.items ≡ map item_of items.old.items ++ map (variable_item gadget.now) (inner_numbers gadget.now)) }
+        (GetsItems items.old.items (map (variable_item gadget.now) (inner_numbers gadget.now)) items.new.items) }
 {
     for var in 0..gadget.vars().len() as u16 {
         if gadget.out_of(var).is_none() {
@@ -71,8 +65,8 @@ fn extend_inner(alloc: Global, gadget: &Gadget, items: &mut Vec<Item>) -> Result
 // Adds the column of each index.
 fn extend_columns(alloc: Global, gadget: &Gadget, items: &mut Vec<Item>) -> Result<(), OutOfMemory>
     ensures { OnOk result
-        (map item_of items.new.items
-        ≡ map item_of items.old.items ++ map (column_item gadget.now) (range_with_len 0 gadget.now.shares)) }
+        (GetsItems items.old.items
+        (map (column_item gadget.now) (range_with_len 0 gadget.now.shares)) items.new.items) }
 {
     for index in 0..gadget.shares() {
         items.push(column_item(alloc, gadget, index)?)?;
