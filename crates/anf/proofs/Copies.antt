@@ -39,6 +39,7 @@ IsPoly-copies ms ws h p =
     let e = length_all_zip (λ (m w : SmallVec ℕ). w.items ≡ m.items) ms ws h in
     record {
       rising = All-copies IsStrictlyIncreasing ms ws h p.rising;
+      filled = All-copies (λ vs. 0 < length vs) ms ws h p.filled;
       small = All-copies (λ vs. length vs ≤ most_in_monomial) ms ws h p.small;
       sorted = AllPairs-copies (λ us vs. slice_cmp nat_cmp us vs ≡ Less) ms ws h p.sorted;
       few = let f = p.few in omega arith;

@@ -8,7 +8,7 @@ use Rattle.std.proofs.lemmas.List.Elements.{Contains-get_or, All-map, All-weaker
 use Rattle.std.proofs.Math.ListN.{get_or-map}
 use Rattle.smallvec.specs.SmallVec.{SmallVec}
 use Rattle.anf.specs.Polynomials.{set_of, HasThreeVariables, HasFewVariables}
-use Rattle.anf.specs.Monomials.{sets_of, AreRising, ArePairs}
+use Rattle.anf.specs.Monomials.{sets_of, AreRising, ArePairs, AreFactors, IsPoly}
 use Rattle.anf.proofs.Sets.{bit_from_Contains, Contains-from_bit}
 
 -- a monomial of more than two rising variables has three
@@ -25,6 +25,11 @@ ArePairs-from_few ms p e rising few k d l =
     let fewer : HasThreeVariables (f m) → ⊥ = λ h.
     subst HasFewVariables (sym e) few k (f d) (omega (arith, length-map ms f)) (subst HasThreeVariables (sym (get_or-map f ms k d)) h) in
     elim (cases_lt 2 (length m.items)) [ inl more ↦ absurd (fewer (HasThreeVariables-from_length m.items (rising k d l) more)) | inr enough ↦ enough ]
+
+-- so they may be multiplied
+pub AreFactors-from_few : (ms : List (SmallVec ℕ)) (p : List ℕ) → sets_of ms ≡ p → IsPoly ms → HasFewVariables p → AreFactors ms
+AreFactors-from_few ms p e is few k d l =
+    record { rising = is.rising k d l; some = is.filled k d l; few = ArePairs-from_few ms p e is.rising few k d l }
 
 -- two variables are no three
 no_three : (vs : List ℕ) → length vs ≤ 2 → HasThreeVariables (set_of vs) → ⊥

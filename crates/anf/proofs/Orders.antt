@@ -62,6 +62,12 @@ AllPairs-sets_of ms rising sorted =
     (once-sets (lists_of ms) (All-map IsStrictlyIncreasing f ms rising)
     (AllPairs-map (λ (a b : SmallVec ℕ). slice_cmp nat_cmp a.items b.items ≡ Less) (λ a b. slice_cmp nat_cmp a b ≡ Less) f (λ a b h. h) ms sorted))
 
+-- the same of what a polynomial is seen as
+pub once-polynomial : (ms : List (SmallVec ℕ)) (p : List ℕ) → sets_of ms ≡ p → IsPoly ms → AllPairs (λ a b. a ≢ b) p
+once-polynomial ms p e is =
+    let P : List ℕ → Type 0 = λ p. AllPairs (λ a b. a ≢ b) p in
+    subst P e (AllPairs-sets_of ms is.rising is.sorted)
+
 -- what holds of the lists of monomials holds of the monomials
 All-from_lists : (P : List ℕ → Type 0) (ms : List (SmallVec ℕ)) → All P (lists_of ms) → All (λ (m : SmallVec ℕ). P m.items) ms
 All-from_lists P ms all k d l =
@@ -83,6 +89,7 @@ IsPoly-from_keys ms keys e have rising few =
     let in_order = subst HaveRisingKeys (sym e) rising in
     record {
       rising = λ k d l. (All-from_lists HaveKey ms on_lists k d l).rising;
+      filled = λ k d l. (All-from_lists HaveKey ms on_lists k d l).some;
       small = λ k d l. (All-from_lists HaveKey ms on_lists k d l).few;
       sorted = AllPairs-from_lists (λ a b. slice_cmp nat_cmp a b ≡ Less) ms (Rise-from_keys (lists_of ms) on_lists in_order);
       few = omega (arith, ap (λ (ls : List (List ℕ)). length ls) e, length-map ms (λ (m : SmallVec ℕ). m.items), few);

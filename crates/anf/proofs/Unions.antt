@@ -1,19 +1,22 @@
--- Unions of monomials.
-use Rattle.std.proofs.Common.{◌≡◌, ℕ, suc, ◌+◌, ◌≤◌, Bool, true, false, cond, eqb, List, [], ◌∷◌, ◌++◌, length, take, drop, ap, sym, ◌∙◌, subst, inl, inr, arith, Contains}
-use Rattle.std.specs.Prelude.{bit_or}
-use Rattle.std.specs.List.{dedup, dedup_from, refill}
-use Rattle.std.specs.List.Sorted.{IsPermutation, IsSorted, IsStrictlyIncreasing}
-use Rattle.std.specs.Ordering.{nat_cmp}
+-- Unions of two monomials of at most two variables: the variables that end them, put in order and each once.
+use Rattle.std.proofs.Common.{◌≡◌, ℕ, zero, suc, ◌-◌, ◌^◌, ◌<◌, ◌≤◌, true, false, cond, eqb, min, max, List, [], ◌∷◌, length, ap, sym, ◌∙◌, inl, inr, arith}
+use Rattle.std.specs.Prelude.{bit_or, slice_index}
 use Rattle.std.specs.Int.{bit_at}
-use Rattle.std.proofs.lemmas.Nat.Bits.{bit_at-lt, bit_at_or, same_from_bits}
-use Rattle.std.proofs.lemmas.List.{length-append, take-append-le}
-use Rattle.std.proofs.lemmas.List.Elements.{Contains-append_left, Contains-append_right, Contains-append_cases}
+use Rattle.std.specs.Int.Bits.{or_zero_r, or_self}
+use Rattle.std.specs.List.{All, dedup_from}
+use Rattle.std.specs.List.Sorted.{IsSorted}
+use Rattle.std.specs.Ordering.{nat_cmp, is_lt}
+use Rattle.std.specs.Cmp.{nat_cmp_is}
+use Rattle.std.specs.declared.cmp.Ordering.TheVariants.{Equal, Greater}
+use Rattle.std.proofs.lemmas.Bool.{cases_eq, cases_lt}
+use Rattle.std.proofs.lemmas.List.Filters.{All-dedup}
 use Rattle.std.proofs.lemmas.List.Kept.{Contains-dedup_nat, Contains-from_dedup}
-use Rattle.std.proofs.lemmas.List.Sorted.{IsPermutation-sym, Contains-permutation, length_permutation}
 use Rattle.std.proofs.lemmas.Map.Keys.{IsStrictlyIncreasing-dedup}
-use Rattle.std.proofs.lemmas.Bool.{cases_eq}
-use Rattle.std.proofs.Math.Seq.{take-length}
+use Rattle.std.proofs.lemmas.Nat.{or_comm}
+use Rattle.std.proofs.lemmas.Nat.Bits.{bit_at-lt, bit_at_or, same_from_bits}
 use Rattle.anf.specs.Polynomials.{set_of}
+use Rattle.anf.specs.Keys.{each_once, HaveKey}
+use Rattle.anf.specs.Monomials.{IsFactor}
 use Rattle.anf.proofs.Sets.{bit_from_Contains, Contains-from_bit}
 
 -- two sets with the same variables are the same
@@ -26,80 +29,97 @@ same_sets m n to back = same_from_bits m n (λ v.
       | inr none ↦ elim (cases_eq (bit_at n v) 1) [ inl one ↦ absurd (none (back v one)) | inr none' ↦ omega arith ]
     ])
 
--- the variables of both lists, each once, are the union of their sets
-set_of-dedup : (us vs sorted : List ℕ) → IsPermutation (us ++ vs) sorted → set_of (dedup eqb sorted) ≡ bit_or (set_of us) (set_of vs)
-set_of-dedup us vs sorted moves =
-    same_sets (set_of (dedup eqb sorted)) (bit_or (set_of us) (set_of vs))
-    (λ v h.
-    let e = bit_at_or (set_of us) (set_of vs) v in
-    let l = bit_at-lt (set_of us) v in
-    let k = bit_at-lt (set_of vs) v in
-    let there = Contains-permutation sorted (us ++ vs) v (IsPermutation-sym (us ++ vs) sorted moves) (Contains-from_dedup eqb sorted v (Contains-from_bit (dedup eqb sorted) v h)) in
-    elim (Contains-append_cases us vs v there) [
-      | inl front ↦ let b = bit_from_Contains us v front in omega arith
-      | inr back ↦ let b = bit_from_Contains vs v back in omega arith
-    ])
-    (λ v h.
-    let e = bit_at_or (set_of us) (set_of vs) v in
-    let l = bit_at-lt (set_of us) v in
-    let k = bit_at-lt (set_of vs) v in
-    let there : Contains (us ++ vs) v = elim (cases_eq (bit_at (set_of us) v) 1) [
-      | inl one ↦ Contains-append_left us vs v (Contains-from_bit us v one)
-      | inr none ↦ Contains-append_right us vs v (Contains-from_bit vs v (omega arith))
-    ] in
-    bit_from_Contains (dedup eqb sorted) v (Contains-dedup_nat sorted v (Contains-permutation (us ++ vs) sorted v moves there)))
+-- digits each once are the same set
+pub set_of-each_once : (ds : List ℕ) → set_of (each_once ds) ≡ set_of ds
+set_of-each_once ds =
+    same_sets (set_of (each_once ds)) (set_of ds)
+    (λ v h. bit_from_Contains ds v (Contains-from_dedup eqb ds v (Contains-from_bit (each_once ds) v h)))
+    (λ v h. bit_from_Contains (each_once ds) v (Contains-dedup_nat ds v (Contains-from_bit ds v h)))
 
--- the first element and what is left of the others are no more than all of them
-length-dedup_from : (same : ℕ → ℕ → Bool) (k : ℕ) (xs : List ℕ) → length (dedup_from same k xs) ≤ suc (length xs)
-length-dedup_from same k [] = omega arith
-length-dedup_from same k (x ∷ xs) =
-    let i = length-dedup_from same k xs in
-    let j = length-dedup_from same x xs in
-    elim (same x k) as (λ b. length (cond b (dedup_from same k xs) (k ∷ dedup_from same x xs)) ≤ suc (suc (length xs))) [
-      | true ↦ omega arith
-      | false ↦ omega arith
+-- the first element stays, and of the others no more are left than there are
+length-dedup_from : (k : ℕ) (xs : List ℕ) → (0 < length (dedup_from eqb k xs)) × (length (dedup_from eqb k xs) ≤ suc (length xs))
+length-dedup_from k [] = (omega arith, omega arith)
+length-dedup_from k (x ∷ xs) =
+    let i = length-dedup_from k xs in
+    let j = length-dedup_from x xs in
+    elim (eqb x k) as (λ b. (0 < length (cond b (dedup_from eqb k xs) (k ∷ dedup_from eqb x xs)))
+    × (length (cond b (dedup_from eqb k xs) (k ∷ dedup_from eqb x xs)) ≤ suc (suc (length xs)))) [
+      | true ↦ (i.0, omega (arith, i.1))
+      | false ↦ (omega arith, omega (arith, j.1))
     ]
 
--- a list without its repeats is no longer
-length-dedup : (same : ℕ → ℕ → Bool) (xs : List ℕ) → length (dedup same xs) ≤ length xs
-length-dedup same [] = omega arith
-length-dedup same (x ∷ xs) = length-dedup_from same x xs
+-- a number isn't less than one that it isn't below
+not_less : (a b : ℕ) → a ≤ b → is_lt (nat_cmp b a) ≡ false
+not_less a b l = elim (cases_eq a b) [
+  | inl same ↦ sym (ap is_lt (nat_cmp_is b a Equal (sym same)))
+  | inr other ↦ sym (ap is_lt (nat_cmp_is b a Greater (omega arith)))
+]
 
--- out has the variables of both lists, put in order and each once
-pub record IsUnion (us vs out : List ℕ) : Type 0 where
-  pub sorted : List ℕ
-  pub moves : IsPermutation (us ++ vs) sorted
-  pub rises : IsSorted nat_cmp sorted
-  pub is : out ≡ dedup eqb sorted
+IsSorted-four : (a b c d : ℕ) → a ≤ b → b ≤ c → c ≤ d → IsSorted nat_cmp (a ∷ b ∷ c ∷ d ∷ [])
+IsSorted-four a b c d k l m zero e low high = not_less a b k
+IsSorted-four a b c d k l m (suc zero) e low high = not_less b c l
+IsSorted-four a b c d k l m (suc (suc zero)) e low high = not_less c d m
+IsSorted-four a b c d k l m (suc (suc (suc n))) e low high = absurd (omega arith)
 
--- a write of a whole list leaves that list
-refill-whole : (n : ℕ) (xs ws : List ℕ) → length ws ≡ n → refill n xs ws ≡ ws
-refill-whole n xs ws e =
-    take-append-le n ws (drop (length ws) xs) (omega arith) ∙ ap (λ (k : ℕ). take k ws) (sym e) ∙ take-length ws
+All-four : (P : ℕ → Type 0) (a b c d : ℕ) → P a → P b → P c → P d → All P (a ∷ b ∷ c ∷ d ∷ [])
+All-four P a b c d ha hb hc hd zero e l = ha
+All-four P a b c d ha hb hc hd (suc zero) e l = hb
+All-four P a b c d ha hb hc hd (suc (suc zero)) e l = hc
+All-four P a b c d ha hb hc hd (suc (suc (suc zero))) e l = hd
+All-four P a b c d ha hb hc hd (suc (suc (suc (suc n)))) e l = absurd (omega arith)
 
--- a list that was put in order in place, and whose repeats were removed
-pub IsUnion-from_writes : (us vs all sorted out : List ℕ) → all ≡ us ++ vs → IsPermutation all sorted → IsSorted nat_cmp sorted →
-    out ≡ dedup eqb (refill (length all) all sorted) → IsUnion us vs out
-IsUnion-from_writes us vs all sorted out e moves rises is = record {
-  sorted = sorted;
-  moves = subst (λ (xs : List ℕ). IsPermutation xs sorted) e moves;
-  rises = rises;
-  is = is ∙ ap (dedup eqb) (refill-whole (length all) all sorted (length_permutation all sorted moves));
+-- four digits in order, each once, have a key
+pub HaveKey-each_once : (a b c d : ℕ) → (a ≤ b) × (b ≤ c) × (c ≤ d) → d < 2 ^ 16 → HaveKey (each_once (a ∷ b ∷ c ∷ d ∷ []))
+HaveKey-each_once a b c d order l = record {
+  rising = IsStrictlyIncreasing-dedup (a ∷ b ∷ c ∷ d ∷ []) (IsSorted-four a b c d order.0 order.1 order.2);
+  some = (length-dedup_from a (b ∷ c ∷ d ∷ [])).0;
+  few = (length-dedup_from a (b ∷ c ∷ d ∷ [])).1;
+  fit = All-dedup eqb (λ v. v < 2 ^ 16) (a ∷ b ∷ c ∷ d ∷ [])
+      (All-four (λ v. v < 2 ^ 16) a b c d (omega (arith, order)) (omega (arith, order)) (omega (arith, order)) l);
 }
 
--- the set of a union
-pub set_of-union : (us vs out : List ℕ) → IsUnion us vs out → set_of out ≡ bit_or (set_of us) (set_of vs)
-set_of-union us vs out u = ap set_of u.is ∙ set_of-dedup us vs u.sorted u.moves
+-- one or two variables are the first and the last one
+pub set_of-ends : (vs : List ℕ) → IsFactor vs → set_of vs ≡ bit_or (2 ^ slice_index vs 0) (2 ^ slice_index vs (length vs - 1))
+set_of-ends [] h = absurd (let s = h.some in omega arith)
+set_of-ends (a ∷ []) h = or_zero_r (2 ^ a) ∙ sym (or_self (2 ^ a))
+set_of-ends (a ∷ b ∷ []) h = ap (bit_or (2 ^ a)) (or_zero_r (2 ^ b))
+set_of-ends (a ∷ b ∷ c ∷ vs) h = absurd (let f = h.few in omega arith)
 
--- the variables of a union rise
-pub IsStrictlyIncreasing-union : (us vs out : List ℕ) → IsUnion us vs out → IsStrictlyIncreasing out
-IsStrictlyIncreasing-union us vs out u = subst IsStrictlyIncreasing (sym u.is) (IsStrictlyIncreasing-dedup u.sorted u.rises)
+or-assoc : (a b c : ℕ) → bit_or (bit_or a b) c ≡ bit_or a (bit_or b c)
+or-assoc a b c = same_from_bits (bit_or (bit_or a b) c) (bit_or a (bit_or b c)) (λ v.
+    omega (arith, bit_at_or (bit_or a b) c v, bit_at_or a b v, bit_at_or a (bit_or b c) v, bit_at_or b c v))
 
--- a union has at most the variables of both together
-pub length-union : (us vs out : List ℕ) → IsUnion us vs out → length out ≤ length us + length vs
-length-union us vs out u =
-    let e = ap length u.is in
-    let shorter = length-dedup eqb u.sorted in
-    let same = length_permutation (us ++ vs) u.sorted u.moves in
-    let both = length-append us vs in
-    omega arith
+-- the two in the middle change places
+or-middle : (a b c d : ℕ) → bit_or (bit_or a b) (bit_or c d) ≡ bit_or (bit_or a c) (bit_or b d)
+or-middle a b c d =
+    or-assoc a b (bit_or c d)
+    ∙ ap (bit_or a) (sym (or-assoc b c d) ∙ ap (λ (n : ℕ). bit_or n d) (or_comm b c) ∙ or-assoc c b d)
+    ∙ sym (or-assoc a c (bit_or b d))
+
+-- two variables that an exchange puts in order are the same set
+or-in_order : (a b low high : ℕ) → low ≡ min a b → high ≡ max a b → bit_or (2 ^ low) (2 ^ high) ≡ bit_or (2 ^ a) (2 ^ b)
+or-in_order a b low high is_low is_high = elim (cases_lt a b) [
+  | inl less ↦
+      let e : low ≡ a = omega arith in
+      let f : high ≡ b = omega arith in
+      ap (λ (v : ℕ). bit_or (2 ^ v) (2 ^ high)) e ∙ ap (λ (v : ℕ). bit_or (2 ^ a) (2 ^ v)) f
+  | inr more ↦
+      let e : low ≡ b = omega arith in
+      let f : high ≡ a = omega arith in
+      ap (λ (v : ℕ). bit_or (2 ^ v) (2 ^ high)) e ∙ ap (λ (v : ℕ). bit_or (2 ^ b) (2 ^ v)) f ∙ or_comm (2 ^ b) (2 ^ a)
+]
+
+-- four variables that three exchanges put in order are the same set
+pub set_of-in_order : (a b c d x y low second third high : ℕ) → x ≡ max a c → y ≡ min b d → low ≡ min a c → second ≡ min x y → third ≡ max x y → high ≡ max b d →
+    set_of (low ∷ second ∷ third ∷ high ∷ []) ≡ bit_or (bit_or (2 ^ a) (2 ^ b)) (bit_or (2 ^ c) (2 ^ d))
+set_of-in_order a b c d x y low second third high is_x is_y is_low is_second is_third is_high =
+    let bit : ℕ → ℕ = λ v. 2 ^ v in
+    ap (λ (n : ℕ). bit_or (bit low) (bit_or (bit second) (bit_or (bit third) n))) (or_zero_r (bit high))
+    ∙ ap (bit_or (bit low))
+    (sym (or-assoc (bit second) (bit third) (bit high))
+    ∙ ap (λ (n : ℕ). bit_or n (bit high)) (or-in_order x y second third is_second is_third)
+    ∙ or-assoc (bit x) (bit y) (bit high))
+    ∙ sym (or-assoc (bit low) (bit x) (bit_or (bit y) (bit high)))
+    ∙ ap (λ (n : ℕ). bit_or n (bit_or (bit y) (bit high))) (or-in_order a c low x is_low is_x)
+    ∙ ap (bit_or (bit_or (bit a) (bit c))) (or-in_order b d y high is_y is_high)
+    ∙ or-middle (bit a) (bit c) (bit b) (bit d)

@@ -1,5 +1,5 @@
 -- Monomials as they are stored, each as the list of its variables, and what a list of them keeps to.
-use Rattle.std.specs.Prelude.{◌≡◌, ℕ, ◌≤◌, List, map, length, All, AllPairs}
+use Rattle.std.specs.Prelude.{◌≡◌, ℕ, ◌<◌, ◌≤◌, List, map, length, All, AllPairs}
 use Rattle.std.specs.List.{AllZip}
 use Rattle.std.specs.List.Sorted.{IsStrictlyIncreasing}
 use Rattle.std.specs.Cmp.Lexicographic.{slice_cmp}
@@ -33,6 +33,10 @@ IsSmall m = length m.items ≤ most_in_monomial
 abbrev pub AreRising : List (SmallVec ℕ) → Type 0
 AreRising ms = All IsSortedMonomial ms
 
+-- each monomial has a variable
+abbrev pub AreFilled : List (SmallVec ℕ) → Type 0
+AreFilled ms = All (λ m. 0 < length m.items) ms
+
 -- each monomial has few enough variables
 abbrev pub AreSmall : List (SmallVec ℕ) → Type 0
 AreSmall ms = All IsSmall ms
@@ -40,6 +44,16 @@ AreSmall ms = All IsSmall ms
 -- each monomial has at most two variables
 abbrev pub ArePairs : List (SmallVec ℕ) → Type 0
 ArePairs ms = All (λ m. length m.items ≤ 2) ms
+
+-- what the variables of a monomial keep to that may be multiplied: they rise, and are one or two
+pub record IsFactor (variables : List ℕ) : Type 0 where
+  pub rising : IsStrictlyIncreasing variables
+  pub some : 0 < length variables
+  pub few : length variables ≤ 2
+
+-- the variables of each monomial keep to it
+abbrev pub AreFactors : List (SmallVec ℕ) → Type 0
+AreFactors ms = All (λ m. IsFactor m.items) ms
 
 -- each monomial comes before the later ones in lexicographic order
 abbrev pub AreInOrder : List (SmallVec ℕ) → Type 0
@@ -52,6 +66,7 @@ AreCopies ms ws = AllZip (λ (m w : SmallVec ℕ). w.items ≡ m.items) ms ws
 -- what the monomials of a polynomial keep to
 pub record IsPoly (ms : List (SmallVec ℕ)) : Type 0 where
   pub rising : AreRising ms
+  pub filled : AreFilled ms
   pub small : AreSmall ms
   pub sorted : AreInOrder ms
   pub few : length ms ≤ most_monomials

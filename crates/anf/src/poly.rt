@@ -10,7 +10,7 @@ use smallvec::SmallVec;
 use std::alloc::{AllocError, Global};
 use std::marker::Model;
 
-/// A product of distinct variables, by their numbers. Those of a polynomial rise, and are at most four.
+/// A product of distinct variables, by their numbers. Those of a polynomial rise, and are one to four.
 pub type Monomial = SmallVec<u16, 4>;
 
 /// A polynomial over GF(2) in algebraic normal form: a sum of distinct monomials, each a product of

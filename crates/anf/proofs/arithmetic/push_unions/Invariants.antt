@@ -9,5 +9,5 @@ use Rattle.anf.proofs.arithmetic.push_unions.Given as goal
 abbrev pub invariant-loop-other : goal.invariant-loop-other
 invariant-loop-other l = record {
   keys : All HaveKey l.keys.items;
-  unions : map set_of l.keys.items ≡ map set_of l.fn.keys.items ++ map (bit_or (set_of l.monomial.items)) (sets_of (take l.other-index l.others));
+  unions : map set_of l.keys.items ≡ map set_of l.fn.keys.items ++ map (bit_or (set_of l.monomial)) (sets_of (take l.other-index l.others));
 }
