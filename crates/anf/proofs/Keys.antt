@@ -1,5 +1,5 @@
 -- The keys of monomials: each gives back its variables, and keys compare as the lists of variables do.
-use Rattle.std.proofs.Common.{◌≡◌, ℕ, zero, suc, ◌+◌, ◌-◌, ◌*◌, ◌/◌, ◌%◌, ◌^◌, ◌<◌, ◌≤◌, true, false, eqb, min, List, [], ◌∷◌, length, refl, ap, sym, ◌∙◌, subst, inl, inr, arith, Ordering}
+use Rattle.std.proofs.Common.{◌≡◌, ℕ, zero, suc, ◌+◌, ◌-◌, ◌*◌, ◌/◌, ◌%◌, ◌^◌, ◌<◌, ◌≤◌, min, List, [], ◌∷◌, length, refl, ap, sym, ◌∙◌, subst, inl, inr, arith, Ordering}
 use Rattle.std.specs.Prelude.{slice_index}
 use Rattle.std.specs.List.{All}
 use Rattle.std.specs.List.Sorted.{IsStrictlyIncreasing}
@@ -7,7 +7,7 @@ use Rattle.std.specs.Cmp.Lexicographic.{slice_cmp, nat_list_cmp_total}
 use Rattle.std.specs.FinMap.{slice_cmp-IsAntisymmetric, nat_cmp-IsAntisymmetric}
 use Rattle.std.specs.Ordering.{nat_cmp, ordering_then, ordering_reverse, is_lt}
 use Rattle.std.specs.Cmp.{nat_cmp_is}
-use Rattle.std.proofs.lemmas.Bool.Decides.{eqb_tells}
+use Rattle.std.proofs.lemmas.Bool.Decides.{nat_tests}
 use Rattle.std.proofs.lemmas.Bool.{cases_lt, cases_eq, false≢true}
 use Rattle.std.proofs.Math.Nat.{mul-le-mul_right}
 use Rattle.std.specs.declared.cmp.Ordering.TheVariants.{Less, Equal, Greater}
@@ -24,24 +24,21 @@ digits_of_number a b c d n la lb lc ld e =
     let fourth : n % 2 ^ 16 ≡ d = omega arith in
     cc
 
--- a number equals itself
-eqb-self : (a : ℕ) → eqb a a ≡ true
-eqb-self a = elim (eqb_tells a a) [ inl same ↦ same.0 | inr other ↦ absurd (other.1 refl) ]
-
--- and no smaller one
-eqb-above : (a b : ℕ) → a < b → eqb b a ≡ false
-eqb-above a b l = elim (eqb_tells b a) [ inl same ↦ absurd (omega (arith, l, same.1)) | inr other ↦ other.0 ]
-
 -- the digits of some variables, each once, are these
 pub each_once-digits : (vs : List ℕ) → IsStrictlyIncreasing vs → 0 < length vs → length vs ≤ 4 →
     each_once (digit vs 0 ∷ digit vs 1 ∷ digit vs 2 ∷ digit vs 3 ∷ []) ≡ vs
 each_once-digits [] rising some few = absurd (omega arith)
-each_once-digits (a ∷ []) rising some few = simp (eqb-self a)
-each_once-digits (a ∷ b ∷ []) rising some few = simp (eqb-self b, eqb-above a b (rising 0 (omega arith)))
+each_once-digits (a ∷ []) rising some few = grind (arith, nat_tests)
+each_once-digits (a ∷ b ∷ []) rising some few = let l = rising 0 (omega arith) in grind (arith, nat_tests)
 each_once-digits (a ∷ b ∷ c ∷ []) rising some few =
-    simp (eqb-self c, eqb-above a b (rising 0 (omega arith)), eqb-above b c (rising 1 (omega arith)))
+    let l = rising 0 (omega arith) in
+    let m = rising 1 (omega arith) in
+    grind (arith, nat_tests)
 each_once-digits (a ∷ b ∷ c ∷ d ∷ []) rising some few =
-    simp (eqb-above a b (rising 0 (omega arith)), eqb-above b c (rising 1 (omega arith)), eqb-above c d (rising 2 (omega arith)))
+    let l = rising 0 (omega arith) in
+    let m = rising 1 (omega arith) in
+    let n = rising 2 (omega arith) in
+    grind (arith, nat_tests)
 each_once-digits (a ∷ b ∷ c ∷ d ∷ e ∷ vs) rising some few = absurd (omega arith)
 
 -- the same where they are read at their places

@@ -63,8 +63,8 @@ AllPairs-sets_of ms rising sorted =
     (AllPairs-map (λ (a b : SmallVec ℕ). slice_cmp nat_cmp a.items b.items ≡ Less) (λ a b. slice_cmp nat_cmp a b ≡ Less) f (λ a b h. h) ms sorted))
 
 -- the same of what a polynomial is seen as
-pub once-polynomial : (ms : List (SmallVec ℕ)) (p : List ℕ) → sets_of ms ≡ p → IsPoly ms → AllPairs (λ a b. a ≢ b) p
-once-polynomial ms p e is =
+pub once-IsPoly : (ms : List (SmallVec ℕ)) (p : List ℕ) → sets_of ms ≡ p → IsPoly ms → AllPairs (λ a b. a ≢ b) p
+once-IsPoly ms p e is =
     let P : List ℕ → Type 0 = λ p. AllPairs (λ a b. a ≢ b) p in
     subst P e (AllPairs-sets_of ms is.rising is.sorted)
 

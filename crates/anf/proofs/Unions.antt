@@ -3,12 +3,13 @@ use Rattle.std.proofs.Common.{◌≡◌, ℕ, zero, suc, ◌-◌, ◌^◌, ◌<�
 use Rattle.std.specs.Prelude.{bit_or, slice_index}
 use Rattle.std.specs.Int.{bit_at}
 use Rattle.std.specs.Int.Bits.{or_zero_r, or_self}
-use Rattle.std.specs.List.{All, dedup_from}
+use Rattle.std.specs.List.{dedup_from}
 use Rattle.std.specs.List.Sorted.{IsSorted}
 use Rattle.std.specs.Ordering.{nat_cmp, is_lt}
 use Rattle.std.specs.Cmp.{nat_cmp_is}
 use Rattle.std.specs.declared.cmp.Ordering.TheVariants.{Equal, Greater}
 use Rattle.std.proofs.lemmas.Bool.{cases_eq, cases_lt}
+use Rattle.std.proofs.lemmas.List.Elements.{All-cons, All-nil}
 use Rattle.std.proofs.lemmas.List.Filters.{All-dedup}
 use Rattle.std.proofs.lemmas.List.Kept.{Contains-dedup_nat, Contains-from_dedup}
 use Rattle.std.proofs.lemmas.Map.Keys.{IsStrictlyIncreasing-dedup}
@@ -61,21 +62,15 @@ IsSorted-four a b c d k l m (suc zero) e low high = not_less b c l
 IsSorted-four a b c d k l m (suc (suc zero)) e low high = not_less c d m
 IsSorted-four a b c d k l m (suc (suc (suc n))) e low high = absurd (omega arith)
 
-All-four : (P : ℕ → Type 0) (a b c d : ℕ) → P a → P b → P c → P d → All P (a ∷ b ∷ c ∷ d ∷ [])
-All-four P a b c d ha hb hc hd zero e l = ha
-All-four P a b c d ha hb hc hd (suc zero) e l = hb
-All-four P a b c d ha hb hc hd (suc (suc zero)) e l = hc
-All-four P a b c d ha hb hc hd (suc (suc (suc zero))) e l = hd
-All-four P a b c d ha hb hc hd (suc (suc (suc (suc n)))) e l = absurd (omega arith)
-
 -- four digits in order, each once, have a key
 pub HaveKey-each_once : (a b c d : ℕ) → (a ≤ b) × (b ≤ c) × (c ≤ d) → d < 2 ^ 16 → HaveKey (each_once (a ∷ b ∷ c ∷ d ∷ []))
-HaveKey-each_once a b c d order l = record {
+HaveKey-each_once a b c d order l = let P : ℕ → Type 0 = λ v. v < 2 ^ 16 in record {
   rising = IsStrictlyIncreasing-dedup (a ∷ b ∷ c ∷ d ∷ []) (IsSorted-four a b c d order.0 order.1 order.2);
   some = (length-dedup_from a (b ∷ c ∷ d ∷ [])).0;
   few = (length-dedup_from a (b ∷ c ∷ d ∷ [])).1;
-  fit = All-dedup eqb (λ v. v < 2 ^ 16) (a ∷ b ∷ c ∷ d ∷ [])
-      (All-four (λ v. v < 2 ^ 16) a b c d (omega (arith, order)) (omega (arith, order)) (omega (arith, order)) l);
+  fit = All-dedup eqb P (a ∷ b ∷ c ∷ d ∷ [])
+      (All-cons P a (b ∷ c ∷ d ∷ []) (omega (arith, order, l))
+      (All-cons P b (c ∷ d ∷ []) (omega (arith, order, l)) (All-cons P c (d ∷ []) (omega (arith, order, l)) (All-cons P d [] l (All-nil P)))));
 }
 
 -- one or two variables are the first and the last one
@@ -85,16 +80,16 @@ set_of-ends (a ∷ []) h = or_zero_r (2 ^ a) ∙ sym (or_self (2 ^ a))
 set_of-ends (a ∷ b ∷ []) h = ap (bit_or (2 ^ a)) (or_zero_r (2 ^ b))
 set_of-ends (a ∷ b ∷ c ∷ vs) h = absurd (let f = h.few in omega arith)
 
-or-assoc : (a b c : ℕ) → bit_or (bit_or a b) c ≡ bit_or a (bit_or b c)
-or-assoc a b c = same_from_bits (bit_or (bit_or a b) c) (bit_or a (bit_or b c)) (λ v.
+pub or_assoc : (a b c : ℕ) → bit_or (bit_or a b) c ≡ bit_or a (bit_or b c)
+or_assoc a b c = same_from_bits (bit_or (bit_or a b) c) (bit_or a (bit_or b c)) (λ v.
     omega (arith, bit_at_or (bit_or a b) c v, bit_at_or a b v, bit_at_or a (bit_or b c) v, bit_at_or b c v))
 
 -- the two in the middle change places
 or-middle : (a b c d : ℕ) → bit_or (bit_or a b) (bit_or c d) ≡ bit_or (bit_or a c) (bit_or b d)
 or-middle a b c d =
-    or-assoc a b (bit_or c d)
-    ∙ ap (bit_or a) (sym (or-assoc b c d) ∙ ap (λ (n : ℕ). bit_or n d) (or_comm b c) ∙ or-assoc c b d)
-    ∙ sym (or-assoc a c (bit_or b d))
+    or_assoc a b (bit_or c d)
+    ∙ ap (bit_or a) (sym (or_assoc b c d) ∙ ap (λ (n : ℕ). bit_or n d) (or_comm b c) ∙ or_assoc c b d)
+    ∙ sym (or_assoc a c (bit_or b d))
 
 -- two variables that an exchange puts in order are the same set
 or-in_order : (a b low high : ℕ) → low ≡ min a b → high ≡ max a b → bit_or (2 ^ low) (2 ^ high) ≡ bit_or (2 ^ a) (2 ^ b)
@@ -116,10 +111,10 @@ set_of-in_order a b c d x y low second third high is_x is_y is_low is_second is_
     let bit : ℕ → ℕ = λ v. 2 ^ v in
     ap (λ (n : ℕ). bit_or (bit low) (bit_or (bit second) (bit_or (bit third) n))) (or_zero_r (bit high))
     ∙ ap (bit_or (bit low))
-    (sym (or-assoc (bit second) (bit third) (bit high))
+    (sym (or_assoc (bit second) (bit third) (bit high))
     ∙ ap (λ (n : ℕ). bit_or n (bit high)) (or-in_order x y second third is_second is_third)
-    ∙ or-assoc (bit x) (bit y) (bit high))
-    ∙ sym (or-assoc (bit low) (bit x) (bit_or (bit y) (bit high)))
+    ∙ or_assoc (bit x) (bit y) (bit high))
+    ∙ sym (or_assoc (bit low) (bit x) (bit_or (bit y) (bit high)))
     ∙ ap (λ (n : ℕ). bit_or n (bit_or (bit y) (bit high))) (or-in_order a c low x is_low is_x)
     ∙ ap (bit_or (bit_or (bit a) (bit c))) (or-in_order b d y high is_y is_high)
     ∙ or-middle (bit a) (bit c) (bit b) (bit d)

@@ -4,7 +4,7 @@ use Rattle.std.specs.Prelude.{fold, bit_or, slice_get}
 use Rattle.std.specs.List.{All, list_all}
 use Rattle.std.specs.Int.{bit_at}
 use Rattle.std.specs.Int.Bits.{or_zero_l, or_zero_r}
-use Rattle.std.proofs.lemmas.Nat.Bits.{bit_at_or, bit_at-zero, same_from_bits}
+use Rattle.std.proofs.lemmas.Nat.Bits.{bit_at-zero}
 use Rattle.std.proofs.lemmas.List.{length-map, get_or-map}
 use Rattle.list_laws.proofs.Counts.{map-map}
 use Rattle.std.proofs.lemmas.List.Elements.{All-head, All-tail, All-cons, All-nil}
@@ -18,16 +18,9 @@ use Rattle.gadget_tree.specs.declared.var.Var.{Var}
 use Rattle.gadget_tree.specs.Seen.{node_of, variable_of, variables_of}
 use Rattle.gadget_tree.specs.Gadgets.{IsGadget, IsInputShare, IsNumberedNode}
 use Rattle.anf.specs.Polynomials.{set_of}
+use Rattle.anf.proofs.Unions.{or_assoc}
 use Rattle.wire_table.specs.declared.terms.Term.TheVariants.{Random, Product}
 use Rattle.wire_table.specs.Terms.{share_bit, node_at, share_set, HasSmallShare, IsRandomOf, IsFitMonomial, IsTermOf}
-
-pub or_assoc : (a b c : ℕ) → bit_or (bit_or a b) c ≡ bit_or a (bit_or b c)
-or_assoc a b c = same_from_bits (bit_or (bit_or a b) c) (bit_or a (bit_or b c)) (λ i.
-    let p = bit_at_or (bit_or a b) c i in
-    let q = bit_at_or a b i in
-    let s = bit_at_or a (bit_or b c) i in
-    let t = bit_at_or b c i in
-    omega arith)
 
 -- the nodes of a gadget's variables as the code has them
 pub nodes-variables_of : (g : Circuit) (vars : List Var) → variables_of vars ≡ g.variables → map (λ (var : Var). node_of var.kind) vars ≡ nodes g

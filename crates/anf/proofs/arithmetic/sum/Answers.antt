@@ -5,7 +5,7 @@ use Rattle.gadget_model.specs.Polynomials.{symmetric_difference, odd_ones}
 use Rattle.anf.specs.Polynomials.{IsSetOf, set_of}
 use Rattle.anf.specs.Monomials.{sets_of}
 use Rattle.list_laws.proofs.Once.{Once}
-use Rattle.anf.proofs.Orders.{once-polynomial}
+use Rattle.anf.proofs.Orders.{once-IsPoly}
 use Rattle.anf.proofs.SymmetricDifferences.{IsSetOf-symmetric_difference, length-symmetric_difference}
 use Rattle.anf.proofs.arithmetic.sum.Goals as goal
 
@@ -17,10 +17,10 @@ both c =
     ∙ ap (λ (p : List ℕ). c.args.a.now ++ p) (ap sets_of c.deref-2.ensures.value ∙ c.b.view_is)
 
 once_a : (c : goal.After-odd_ones) → Once c.args.a.now
-once_a c = once-polynomial _ _ c.a.view_is c.a.invariant
+once_a c = once-IsPoly _ _ c.a.view_is c.a.invariant
 
 once_b : (c : goal.After-odd_ones) → Once c.args.b.now
-once_b c = once-polynomial _ _ c.b.view_is c.b.invariant
+once_b c = once-IsPoly _ _ c.b.view_is c.b.invariant
 
 same_length : (c : goal.After-odd_ones) → length (symmetric_difference c.args.a.now c.args.b.now) ≡ length (odd_ones (map set_of c.in_ok-keys.keys.items))
 same_length c = length-symmetric_difference _ _ _ (both c) (once_a c) (once_b c)
