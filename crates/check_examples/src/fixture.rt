@@ -44,6 +44,19 @@ pub fn source_of(alloc: Global, file: &str, most: usize, fails: &[u32]) -> Resul
     Ok(MemSource::make(bytes, most, fails.to_vec(alloc)?))
 }
 
+/// Checks a file as the words after the program's name ask.
+pub fn check_as(alloc: Global, asked: &[&str], file: &str) -> Result<Outcome, Fail> {
+    let mut words = owned(alloc, &["mask"])?;
+    for word in asked {
+        words.push(String::from_str(alloc, word)?)?;
+    }
+    let mut source = SureSource::make(file.as_bytes().to_vec(alloc)?);
+    let mut sink = MemSink::make(alloc, 1000, 1000, Vec::new(alloc))?;
+    let status = check(alloc, &words, &mut source, &mut sink);
+    let text = String::from_utf8(sink.bytes().to_vec(alloc)?)?;
+    Ok(Outcome { status, text })
+}
+
 /// Checks what `source` gives at an order, into a sink.
 pub fn check_into<S: Source>(
     alloc: Global,

@@ -10,6 +10,8 @@ mod least_sets;
 #[cfg(test)]
 mod limits;
 #[cfg(test)]
+mod notions;
+#[cfg(test)]
 mod products;
 #[cfg(test)]
 mod randoms;

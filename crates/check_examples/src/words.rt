@@ -7,7 +7,7 @@ use std::test::Fail;
 
 // Words, and what is amiss with them.
 const REFUSED_WORDS: [(&[&str], UsageKind); 3] = [
-    (&["mask", "ni", "3"], UsageKind::Argument),
+    (&["mask", "ni", "7"], UsageKind::Argument),
     (&["mask", "xni", "1"], UsageKind::Task),
     (&["mask", "ni"], UsageKind::Words),
 ];

@@ -1,5 +1,5 @@
 -- A valid check completes, unless reading, writing or memory fails.
-use Rattle.std.proofs.Common.{◌≡◌, ℕ, List, Option, Ok, Err, subst, arith, refl, inl, inr}
+use Rattle.std.proofs.Common.{◌≡◌, ℕ, List, Option, Ok, Err, subst, sym, arith, refl, inl, inr}
 use Rattle.std.specs.Prelude.{◌≢◌, Result, IfSome}
 use Rattle.mask_bytes.specs.Flow.{IsLonger}
 use Rattle.gadget_model.specs.Circuit.{Circuit}
@@ -10,11 +10,13 @@ use Rattle.gadget_tree.proofs.OneReading.{one_reading}
 use Rattle.wire_table.specs.Refusals.{Refuses}
 use Rattle.wire_table.specs.declared.wire_error.WireError.{WireError}
 use Rattle.wire_table.specs.declared.wire_error.WireError.TheVariants as wires
-use Rattle.mask_check.specs.declared.status.Status.{Status}
-use Rattle.mask_check.specs.declared.status.Status.TheVariants as statuses
+use Rattle.report.specs.declared.status.Status.{Status}
+use Rattle.report.specs.declared.status.Status.TheVariants as statuses
 use Rattle.gadget_text.specs.Limits.{most_file_bytes}
-use Rattle.mask_check.specs.Words.{words_ask}
-use Rattle.mask_check.specs.Ends.{Run, ReadsAll, Ends, IsValid, IsVerdictIfMemoryLasts}
+use Rattle.mask_words.specs.declared.answer.Settings.{Settings}
+use Rattle.mask_words.specs.declared.answer.WordsError.TheVariants as refused
+use Rattle.mask_check.specs.Questions.{IsUnsuited, work}
+use Rattle.mask_check.specs.Ends.{words_ask, Run, ReadsAll, Reads, IsOverBudget, Ends, IsValid, IsVerdictIfMemoryLasts}
 
 ok_err : {A B : Type 0} (a : A) (b : B) (r : Result A B) → r ≡ Ok a → r ≡ Err b → ⊥
 ok_err a b r e f = cc
@@ -41,10 +43,21 @@ module _ {S K : Type 0} (words : List (List ℕ)) (run : Run S K) (valid : IsVal
       let is : read ≡ valid.bytes = subst (λ (o : Option (List ℕ)). IfSome o (λ left. read ≡ left)) valid.told reads.whole in
       one_reading valid.bytes (Ok valid.gadget) r valid.accepted.file (subst (λ (bytes : List ℕ). FileSays bytes r) is says)
 
+  -- the check and the gadget that were read are those that are valid
+  same_check : (Holds : Settings → Circuit → Type 0) → Reads words run Holds → Holds valid.settings valid.gadget
+  same_check Holds h =
+      let accepted = h.accepted in
+      let is_s = ok_ok h.settings valid.settings (words_ask words) accepted.asked valid.accepted.asked in
+      let is_g = ok_ok h.gadget valid.gadget (Ok h.gadget) refl (sym (same h.bytes (Ok h.gadget) h.read accepted.file)) in
+      subst (λ (s : Settings). Holds s valid.gadget) is_s (subst (λ (g : Circuit). Holds h.settings g) is_g h.holds)
+
   pub IsVerdictIfMemoryLasts-from_ends : (status : Status) → Ends words run status → IsVerdictIfMemoryLasts status
   IsVerdictIfMemoryLasts-from_ends statuses.Yes h = inl refl
   IsVerdictIfMemoryLasts-from_ends statuses.No h = inr (inl refl)
-  IsVerdictIfMemoryLasts-from_ends (statuses.Usage kind) h = absurd (ok_err valid.t kind (words_ask words) valid.accepted.asked h.0)
+  IsVerdictIfMemoryLasts-from_ends (statuses.Usage kind) h =
+      absurd (ok_err valid.settings (refused.Usage kind) (words_ask words) valid.accepted.asked h.0.0)
+  IsVerdictIfMemoryLasts-from_ends statuses.SizeNotUsed h =
+      absurd (ok_err valid.settings refused.SizeNotUsed (words_ask words) valid.accepted.asked h.0.0)
   IsVerdictIfMemoryLasts-from_ends (statuses.File error) h =
       absurd (ok_err valid.gadget error (Ok valid.gadget) refl (same h.1.1 (Err error) h.1.2 h.1.3))
   IsVerdictIfMemoryLasts-from_ends (statuses.Wires error) h =
@@ -54,6 +67,14 @@ module _ {S K : Type 0} (words : List (List ℕ)) (run : Run S K) (valid : IsVal
   IsVerdictIfMemoryLasts-from_ends statuses.TooLong h =
       let longer = subst (λ (o : Option (List ℕ)). IsLonger o most_file_bytes) valid.told h.1.0 in
       let few = valid.few in
+      absurd (omega arith)
+  IsVerdictIfMemoryLasts-from_ends (statuses.NotForGadget why) h =
+      absurd (valid.feasible.suited why (same_check (λ s g. IsUnsuited s g why) h.0))
+  IsVerdictIfMemoryLasts-from_ends (statuses.Budget count) h =
+      let over = same_check (λ s g. IsOverBudget s g count) h.0 in
+      let counted = over.counted in
+      let past = over.over in
+      let within = valid.feasible.within in
       absurd (omega arith)
   IsVerdictIfMemoryLasts-from_ends statuses.ReadFault h = absurd (valid.reads h.1)
   IsVerdictIfMemoryLasts-from_ends statuses.WriteFault h = absurd (valid.writes h.0)

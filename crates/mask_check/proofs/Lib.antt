@@ -1,4 +1,3 @@
-pub mod ReportTexts
-pub mod Decisions
+pub mod Answering
 pub mod Completions
 pub mod AfterReading

@@ -1,24 +1,30 @@
 -- How a check ends: what each status says of the words, of what was read, and of what was written.
-use Rattle.std.specs.Prelude.{◌≡◌, ◌≢◌, ◌↔◌, ℕ, ◌+◌, ◌≤◌, ◌⊎◌, Bool, true, false, List, [], length, Option, Some, IfSome, IsTrue, Ok, Err}
+use Rattle.std.specs.Prelude.{◌≡◌, ◌≢◌, ◌↔◌, ℕ, ◌+◌, ◌<◌, ◌≤◌, ◌⊎◌, Bool, true, false, List, length, drop, Option, Some, IfSome, IsTrue, Result, Ok, Err}
 use Rattle.std.specs.Io.KnownBytes.{IsAtEnd, append_known}
 use Rattle.mask_bytes.specs.Counts.{Rose}
 use Rattle.mask_bytes.specs.Flow.{IsLonger, LosesCount, LosesAtMost, AppendsProperPrefix}
 use Rattle.gadget_model.specs.Circuit.{Circuit}
 use Rattle.gadget_model.specs.Classes.{IsInClass}
-use Rattle.tuple_model.specs.Tuples.{IsTuple, tuples}
-use Rattle.tuple_model.specs.Minimal.{IsAnswer}
-use Rattle.notions.specs.Ni.{Fails}
-use Rattle.gadget_tree.specs.File.{FileSays}
+use Rattle.gadget_text.specs.Limits.{most_file_bytes}
 use Rattle.gadget_text.specs.declared.file_error.FileError.{FileError}
 use Rattle.gadget_text.specs.declared.file_error.FileError.TheVariants as files
+use Rattle.gadget_tree.specs.File.{FileSays}
 use Rattle.wire_table.specs.Refusals.{Refuses}
 use Rattle.wire_table.specs.declared.wire_error.WireError.{WireError}
 use Rattle.wire_table.specs.declared.wire_error.WireError.TheVariants as wires
-use Rattle.mask_check.specs.declared.status.Status.{Status}
-use Rattle.mask_check.specs.declared.status.Status.TheVariants.{Yes, No, Usage, File, Wires, TooLong, ReadFault, WriteFault, OutOfMemory}
-use Rattle.gadget_text.specs.Limits.{most_file_bytes}
-use Rattle.mask_check.specs.Words.{words_ask}
-use Rattle.mask_check.specs.Report.{report}
+use Rattle.mask_words.specs.Settings.{settings_of}
+use Rattle.mask_words.specs.declared.answer.Settings.{Settings}
+use Rattle.mask_words.specs.declared.answer.WordsError.{WordsError}
+use Rattle.mask_words.specs.declared.answer.WordsError.TheVariants as refused
+use Rattle.report.specs.declared.status.NotFor.{NotFor}
+use Rattle.report.specs.declared.status.Status.{Status}
+use Rattle.report.specs.declared.status.Status.TheVariants.{Yes, No, Usage, SizeNotUsed, File, Wires, TooLong, NotForGadget, Budget, ReadFault, WriteFault, OutOfMemory}
+use Rattle.mask_check.specs.Questions.{questions, IsUnsuited, IsSuited, work, AreAnswers, NoneFails}
+use Rattle.mask_check.specs.Report.{report, are_empty}
+
+-- What the words of a command line ask for, the program's name skipped: settings, or the first thing that is wrong.
+abbrev pub words_ask : List (List ℕ) → Result Settings WordsError
+words_ask words = settings_of (drop 1 words)
 
 -- a source and a sink before and after a call, with what their kinds tell of them
 pub record Run (S K : Type 0) : Type 0 where
@@ -45,20 +51,31 @@ run_of left read_faults written write_faults source source_after sink sink_after
   sink_after = sink_after;
 }
 
--- The words ask for ni t, and the bytes are the file of this gadget, which is in the verifier's class.
-pub record IsAccepted (words : List (List ℕ)) (bytes : List ℕ) (t : ℕ) (gadget : Circuit) : Type 0 where
-  pub asked : words_ask words ≡ Ok t
+-- The words ask for a check with these settings, and the bytes are the file of this gadget, which is in the verifier's
+-- class.
+pub record IsAccepted (words : List (List ℕ)) (bytes : List ℕ) (s : Settings) (gadget : Circuit) : Type 0 where
+  pub asked : words_ask words ≡ Ok s
   pub file : FileSays bytes (Ok gadget)
   pub in_class : IsInClass gadget
 
--- The text is the report of exactly the minimal failing sets of at most t probes, and the verdict is that no set fails.
-pub record Answers (gadget : Circuit) (t : ℕ) (secure : Bool) (text : List ℕ) : Type 0 where
-  pub failing : List (List ℕ)
-  pub minimal : IsAnswer (Fails gadget t) (length gadget.variables) t failing
-  pub reported : text ≡ report gadget t (length (tuples (length gadget.variables) t)) failing
-  pub listed : IsTrue secure ↔ (failing ≡ [])
-  pub none_fails : IsTrue secure ↔
-      ((probes : List ℕ) → IsTuple (length gadget.variables) t probes → Fails gadget t probes → ⊥)
+-- The gadget suits the check, and the work is within the budget.
+pub record IsFeasible (s : Settings) (gadget : Circuit) : Type 0 where
+  pub suited : IsSuited s gadget
+  pub within : work s gadget ≤ s.budget
+
+-- The gadget suits the check, and the work is this count, which is over the budget.
+pub record IsOverBudget (s : Settings) (gadget : Circuit) (count : ℕ) : Type 0 where
+  pub suited : IsSuited s gadget
+  pub counted : count ≡ work s gadget
+  pub over : s.budget < count
+
+-- The text is the report of exactly the minimal failing tuples of each question, and the verdict is that no tuple fails.
+pub record Answers (s : Settings) (gadget : Circuit) (secure : Bool) (text : List ℕ) : Type 0 where
+  pub answers : List (List (List ℕ))
+  pub minimal : AreAnswers s gadget (questions s gadget) answers
+  pub reported : text ≡ report s gadget answers
+  pub listed : secure ≡ are_empty answers
+  pub none_fails : IsTrue secure ↔ NoneFails s gadget
 
 -- All that was left of the source was read, no more than a file may have; where the source tells, it is these bytes.
 pub record ReadsAll {S K : Type 0} (run : Run S K) (bytes : List ℕ) : Type 0 where
@@ -66,18 +83,22 @@ pub record ReadsAll {S K : Type 0} (run : Run S K) (bytes : List ℕ) : Type 0 w
   pub end : IsAtEnd (run.left run.source_after)
   pub few : length bytes ≤ most_file_bytes
 
--- The check got as far as this verdict and this text: a file was read, it is accepted, and its gadget has this answer.
-pub record Reaches {S K : Type 0} (words : List (List ℕ)) (run : Run S K) (secure : Bool) (text : List ℕ) : Type 0 where
+-- A file was read and is accepted, and its gadget is one of which this holds.
+pub record Reads {S K : Type 0} (words : List (List ℕ)) (run : Run S K) (Holds : Settings → Circuit → Type 0) : Type 0 where
   pub bytes : List ℕ
-  pub t : ℕ
+  pub settings : Settings
   pub gadget : Circuit
   pub read : ReadsAll run bytes
-  pub accepted : IsAccepted words bytes t gadget
-  pub answers : Answers gadget t secure text
+  pub accepted : IsAccepted words bytes settings gadget
+  pub holds : Holds settings gadget
+
+-- The check got as far as this verdict and this text: the check of the gadget can be done, and this is its answer.
+abbrev pub Reaches : {S K : Type 0} → List (List ℕ) → Run S K → Bool → List ℕ → Type 0
+Reaches words run secure text = Reads words run (λ s g. IsFeasible s g × Answers s g secure text)
 
 -- the words ask for some check
 abbrev pub IsAsked : List (List ℕ) → Type 0
-IsAsked words = (t : ℕ) × (words_ask words ≡ Ok t)
+IsAsked words = (s : Settings) × (words_ask words ≡ Ok s)
 
 -- exactly so many bytes were taken from the source, where it tells its bytes
 abbrev pub Takes : {S K : Type 0} → Run S K → ℕ → Type 0
@@ -134,26 +155,36 @@ Completes words run secure = (text : List ℕ) × Reaches words run secure text 
 abbrev pub BreaksOff : {S K : Type 0} → List (List ℕ) → Run S K → Type 0
 BreaksOff words run = (secure : Bool) × (text : List ℕ) × Reaches words run secure text × WritesPrefix run text
 
+-- The words are refused for this, the first thing that is wrong with them, before anything is read.
+abbrev pub RefusesWords : {S K : Type 0} → List (List ℕ) → Run S K → WordsError → Type 0
+RefusesWords words run error = (words_ask words ≡ Err error) × ReadsNothing run
+
 -- How a check ends: a line for each status, in the order of docs/REPORT.md.
 abbrev pub Ends : {S K : Type 0} → List (List ℕ) → Run S K → Status → Type 0
 Ends words run Yes = Completes words run true
 Ends words run No = Completes words run false
-Ends words run (Usage kind) = (words_ask words ≡ Err kind) × ReadsNothing run × WritesNothing run
+Ends words run (Usage kind) = RefusesWords words run (refused.Usage kind) × WritesNothing run
+Ends words run SizeNotUsed = RefusesWords words run refused.SizeNotUsed × WritesNothing run
 Ends words run (File error) = IsAsked words × RefusesFile run error × WritesNothing run
 Ends words run (Wires error) = IsAsked words × RefusesGadget run error × WritesNothing run
 Ends words run TooLong = IsAsked words × ReadsTooMuch run × WritesNothing run
+Ends words run (NotForGadget why) = Reads words run (λ s g. IsUnsuited s g why) × WritesNothing run
+Ends words run (Budget count) = Reads words run (λ s g. IsOverBudget s g count) × WritesNothing run
 Ends words run ReadFault = IsAsked words × CountsReadFault run × TakesAtMost run most_file_bytes × WritesNothing run
 Ends words run WriteFault = CountsWriteFault run × BreaksOff words run
-Ends words run OutOfMemory = IsAsked words × TakesAtMost run (most_file_bytes + 1) × WritesNothing run
+Ends words run OutOfMemory =
+    (ReadsNothing run ⊎ (IsAsked words × TakesAtMost run (most_file_bytes + 1))) × WritesNothing run
 
--- A valid check: the source tells the bytes of a file that is accepted, and neither a read nor a write fails.
+-- A valid check: the source tells the bytes of a file that is accepted, the check of its gadget can be done, and neither
+-- a read nor a write fails.
 pub record IsValid {S K : Type 0} (words : List (List ℕ)) (run : Run S K) : Type 0 where
   pub bytes : List ℕ
-  pub t : ℕ
+  pub settings : Settings
   pub gadget : Circuit
   pub told : run.left run.source ≡ Some bytes
   pub few : length bytes ≤ most_file_bytes
-  pub accepted : IsAccepted words bytes t gadget
+  pub accepted : IsAccepted words bytes settings gadget
+  pub feasible : IsFeasible settings gadget
   pub reads : CountsReadFault run → ⊥
   pub writes : CountsWriteFault run → ⊥
 

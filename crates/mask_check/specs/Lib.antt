@@ -1,7 +1,6 @@
+pub mod Questions
 pub mod Report
-pub mod Words
 pub mod Ends
--- The theorem of `check` doesn't rest on what follows: proofs and the contracts of inner calls use it.
-pub mod Limits
-pub mod Texts
 pub mod Causes
+-- The theorem of `check` doesn't rest on what follows: proofs and the contracts of inner calls use it.
+pub mod Decisions

@@ -2,15 +2,8 @@
 #![tactic(auto)]
 
 mod answer;
-mod line;
-mod report;
+mod refusals;
 mod run;
-mod status;
-mod texts;
-mod words;
 
-pub use line::Line;
+pub use report::{Line, NotFor, Opt, Status, Task, UsageKind, exit_status, status_text};
 pub use run::{check, no_fault_law};
-pub use status::{Status, UsageKind};
-pub use texts::{exit_status, status_text};
-pub use words::settings;

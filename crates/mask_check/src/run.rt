@@ -1,16 +1,18 @@
 //! The top call.
 
-ghost use Rattle.std.specs.Prelude.{◌≡◌, ◌≢◌, ◌↔◌, ℕ, ◌≤◌, true, false, List, Some, Ok, Err, MatchResult, map, string_bytes};
+ghost use Rattle.std.specs.Prelude.{◌≡◌, ◌≢◌, ◌⊎◌, ◌≤◌, Ok, Err, MatchResult, map, string_bytes, IfOk};
+ghost use Rattle.tuple_model.specs.Limits.{most_size};
 ghost use Rattle.mask_bytes.specs.Counts.{Rose};
-ghost use Rattle.mask_check.specs.Words.{words_ask};
-ghost use Rattle.mask_check.specs.Ends.{run_of, Completes, Ends, IsValid, IsVerdictIfMemoryLasts};
+ghost use Rattle.mask_check.specs.Causes.{status_of_words};
+ghost use Rattle.mask_check.specs.Ends.{run_of, words_ask, Completes, Ends, IsValid, IsVerdictIfMemoryLasts};
 
 use crate::answer::decide;
-use crate::status::Status;
-use crate::words::settings;
+use crate::refusals::refused_words;
 use gadget_text::MOST_FILE_BYTES;
 use gadget_tree::read_gadget;
 use mask_bytes::{Sink, Source, read_whole, write_whole};
+use mask_words::settings;
+use report::Status;
 use std::alloc::Global;
 use wire_table::WireTable;
 
@@ -25,9 +27,9 @@ pub fn check<S: Source, K: Sink>(
     ensures ends { Ends (map string_bytes words.now)
         (run_of S.left S.faults K.written K.faults source.old source.new sink.old sink.new) result }
 
-    // Bad words are refused exactly by the first thing that is wrong with them.
-    ensures usage { (kind : _) →
-        (result ≡ Status.Usage kind) ↔ (words_ask (map string_bytes words.now) ≡ Err kind) }
+    // Bad words are refused by the first thing that is wrong with them, unless memory fails.
+    ensures words { (error : _) → words_ask (map string_bytes words.now) ≡ Err error →
+        (result ≡ status_of_words error) ⊎ (result ≡ Status.OutOfMemory) }
 
     // Every other answer met no fault, a verdict above all.
     ensures read_faultless { result ≢ Status.ReadFault → S.faults source.new ≡ S.faults source.old }
@@ -57,12 +59,12 @@ fn verdict<S: Source, K: Sink>(
     ensures read_faultless { result ≢ Err Status.ReadFault → S.faults source.new ≡ S.faults source.old }
     ensures write_faultless { result ≢ Err Status.WriteFault → K.faults sink.new ≡ K.faults sink.old }
 {
-    let t = settings(words)?;
+    let settings = settings(alloc, words).map_err(refused_words)?;
     let bytes = read_whole(alloc, source, MOST_FILE_BYTES)?;
     let gadget = read_gadget(alloc, &bytes)?;
     let table = WireTable::make(alloc, &gadget)?;
-    let answer = decide(alloc, &gadget, &table, t)?;
-    write_whole(sink, &answer.report)?;
+    let answer = decide(alloc, &gadget, &table, &settings)?;
+    write_whole(sink, answer.report.bytes())?;
     Ok(answer.secure)
 }
 

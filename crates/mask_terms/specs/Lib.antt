@@ -1,4 +1,3 @@
 pub mod Tasks
--- The theorem of `check` doesn't rest on what follows: proofs and the contracts of inner calls use it.
 pub mod Options
 pub mod Wires

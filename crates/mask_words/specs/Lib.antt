@@ -1,7 +1,7 @@
--- The theorem of `check` doesn't rest on what follows: proofs and the contracts of inner calls use it.
 pub mod Options
-pub mod Command
 pub mod Reading
-pub mod Shown
 pub mod Numbers
 pub mod Settings
+-- The theorem of `check` doesn't rest on what follows: proofs and the contracts of inner calls use it.
+pub mod Command
+pub mod Shown

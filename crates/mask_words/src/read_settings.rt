@@ -1,6 +1,7 @@
 //! From the words of a command line to settings.
 
-ghost use Rattle.std.specs.Prelude.{◌≡◌, map, drop, option_map, string_bytes};
+ghost use Rattle.std.specs.Prelude.{◌≡◌, ◌≤◌, IfOk, map, drop, option_map, string_bytes};
+ghost use Rattle.mask_words.specs.Options.{most_order};
 ghost use Rattle.mask_words.specs.Settings.{AgreesWith, settings_from, settings_of, wires_by};
 ghost use Rattle.mask_words.specs.Shown.{shown};
 
@@ -23,7 +24,9 @@ fn wires(text: Option<&str>) -> Result<Wires, WordsError>
 
 // The checks of what is given, in their order.
 fn settings_from(given: &Given) -> Result<Settings, WordsError>
-    ensures { result ≡ settings_from (shown given.now) }
+    ensures settings { result ≡ settings_from (shown given.now) }
+    ensures order { IfOk result (λ s. s.t ≤ most_order) }
+    ensures size { IfOk result (λ s. s.size ≡ s.t) }
 {
     let Some(task) = Task::named(given.task) else {
         return Err(WordsError::Usage(UsageKind::Task));
@@ -57,7 +60,9 @@ fn settings_from(given: &Given) -> Result<Settings, WordsError>
 /// wrong, the error is that of the first check that fails: of the words as a whole, of the task, of its argument, of
 /// the options' values in the order of their table, and at last whether the task uses `--size` and `--wires`.
 pub fn settings(alloc: Global, words: &[String]) -> Result<Settings, WordsError>
-    ensures { AgreesWith (settings_of (drop 1 (map string_bytes words.now))) result }
+    ensures settings { AgreesWith (settings_of (drop 1 (map string_bytes words.now))) result }
+    ensures order { IfOk result (λ s. s.t ≤ most_order) }
+    ensures size { IfOk result (λ s. s.size ≡ s.t) }
 {
     let Ok(read) = read(alloc, words) else {
         return Err(WordsError::OutOfMemory);

@@ -1,23 +1,17 @@
-use Rattle.mask_check.proofs.Decisions.{answer-from_check, sets-from_check, Answers-from}
-use Rattle.mask_check.proofs.ReportTexts.{AreVariables-from_answer}
-use Rattle.notions.specs.Ni.{Fails}
+use Rattle.std.proofs.Common.{◌≡◌, ◌∙◌, ℕ, List, length, ap, sym, subst, rules}
+use Rattle.std.proofs.lemmas.List.{length-map}
+use Rattle.tuple_model.specs.Minimal.{IsAnswer}
+use Rattle.wire_table.specs.Items.{item_of}
+use Rattle.notions.specs.Questions.{NotionQuestion, items_asked}
+use Rattle.mask_check.specs.Questions.{FailsIn, notion_of, question}
+use Rattle.mask_check.proofs.Answering.{answer-from_query}
 use Rattle.mask_check.proofs.answer.decide.Goals as goal
 
-pub report-requires : goal.report-requires
-report-requires c =
+pub conclude-requires-clause-failing : goal.conclude-requires-clause-failing
+conclude-requires-clause-failing c =
+    let s = c.args.settings.now in
     let g = c.args.gadget.now in
-    record {
-      variables = AreVariables-from_answer (Fails g c.args.t) g c.args.t c.in_ok-failing.failing
-          (answer-from_check c.in_ok-check.check g c.args.t c.in_ok-failing.failing c.in_ok-check.ensures.gadget c.in_ok-check.ensures.order c.in_ok-failing.ensures);
-    }
-
-pub returns : goal.returns
-returns c =
-    let g = c.args.gadget.now in
-    let q = c.in_ok-check.check in
-    let is_g = c.in_ok-check.ensures.gadget in
-    let is_t = c.in_ok-check.ensures.order in
-    Answers-from g c.args.t c.in_ok-failing.failing c.is_empty.result c.in_ok-report.report.items c.count-sets.result
-    (answer-from_check q g c.args.t c.in_ok-failing.failing is_g is_t c.in_ok-failing.ensures) c.is_empty.ensures
-    (sets-from_check q g c.args.t c.items.result c.size.result c.count-sets.result is_g is_t c.items.ensures.items c.size.ensures.size c.count-sets.ensures)
-    c.in_ok-report.ensures
+    let made : c.in_ok-query.query ≡ record { notion = notion_of s.task; gadget = g; table = c.args.table.now; t = s.t } = search rules in
+    let answer = answer-from_query s g c.args.table.now c.in_ok-query.query c.in_ok-failing.failing made c.requires.size c.in_ok-failing.ensures in
+    let P : ℕ → Type 0 = λ n. IsAnswer (FailsIn g (question s)) n s.size c.in_ok-failing.failing in
+    subst P (sym (ap (λ (q : NotionQuestion). length (items_asked q)) made) ∙ sym (ap length c.list.ensures) ∙ length-map c.list.result.now item_of) answer

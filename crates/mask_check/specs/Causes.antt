@@ -1,0 +1,17 @@
+-- The statuses of the errors of the layers below.
+use Rattle.mask_words.specs.declared.answer.WordsError.{WordsError}
+use Rattle.mask_words.specs.declared.answer.WordsError.TheVariants as words
+use Rattle.notions.specs.declared.notion.NotionError.{NotionError}
+use Rattle.notions.specs.declared.notion.NotionError.TheVariants as notions
+use Rattle.report.specs.declared.status.NotFor.TheVariants.{SeveralOutputs}
+use Rattle.report.specs.declared.status.Status.{Status}
+use Rattle.report.specs.declared.status.Status.TheVariants as statuses
+
+abbrev pub status_of_words : WordsError → Status
+status_of_words (words.Usage kind) = statuses.Usage kind
+status_of_words words.SizeNotUsed = statuses.SizeNotUsed
+status_of_words words.OutOfMemory = statuses.OutOfMemory
+
+abbrev pub status_of_notion : NotionError → Status
+status_of_notion notions.SeveralOutputs = statuses.NotForGadget SeveralOutputs
+status_of_notion notions.OutOfMemory = statuses.OutOfMemory
