@@ -6,11 +6,11 @@ mod fixture;
 #[cfg(test)]
 mod forms;
 #[cfg(test)]
+mod four_notions;
+#[cfg(test)]
 mod least_sets;
 #[cfg(test)]
 mod limits;
-#[cfg(test)]
-mod notions;
 #[cfg(test)]
 mod products;
 #[cfg(test)]
