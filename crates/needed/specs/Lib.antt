@@ -1,4 +1,6 @@
+pub mod ShareCounts
 -- The theorem of `check` doesn't rest on what follows: proofs and the contracts of inner calls use it.
 pub mod Sums
 pub mod LeastSets
 pub mod HeldFields
+pub mod Others

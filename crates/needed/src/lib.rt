@@ -8,11 +8,15 @@ ghost use Rattle.gf2_rows.specs.Combinations.{most_rows};
 ghost use Rattle.wire_table.specs.Tables.{StandsFor};
 
 mod elimination;
+mod indices;
+mod item_scratch;
 mod prefixes;
 mod scratch;
 mod sums;
 
 pub use elimination::Elimination;
+pub use indices::share_indices;
+pub use item_scratch::ItemScratch;
 use prefixes::Prefixes;
 pub use scratch::Scratch;
 use wire_table::WireTable;

@@ -1,5 +1,5 @@
 -- What a query knows of the tuple that it is asked about.
-use Rattle.std.proofs.Common.{◌≡◌, ℕ, ◌<◌, ◌≤◌, Bool, false, not, List, length, map, get_or, ap, sym, ◌∙◌, arith, subst, ◌↔◌}
+use Rattle.std.proofs.Common.{◌≡◌, ℕ, ◌<◌, ◌≤◌, Bool, false, not, List, [], ◌++◌, length, map, get_or, ap, sym, ◌∙◌, arith, subst, ◌↔◌, append-nil}
 use Rattle.std.specs.Prelude.{IsTrue, All}
 use Rattle.std.proofs.Math.ListN.{length-map}
 use Rattle.std.proofs.lemmas.Bool.{not-true, not-false, false≢true}
@@ -10,19 +10,20 @@ use Rattle.tuple_model.specs.Limits.{most_size}
 use Rattle.tuple_model.specs.Tuples.{IsTuple}
 use Rattle.tuple_model.proofs.Rising.{IsRising-member}
 use Rattle.wire_table.specs.Tables.{Table, StandsFor}
-use Rattle.wire_table.specs.Items.{Item, item_of}
+use Rattle.wire_table.specs.Items.{Item, item_of, HasFewVariables, HasVariablesBelow, variables_in}
 use Rattle.wire_table.specs.declared.item.Item as code
 use Rattle.notions.specs.declared.notion.Notion.{Notion}
 use Rattle.notions.specs.declared.query.NotionQuery.TheInside.{Inside}
-use Rattle.notions.specs.Inside.{question_of, IsPrepared, HasFewVariables, HasVariablesBelow, HasSmallIndex}
+use Rattle.notions.specs.Inside.{question_of, IsPrepared, HasSmallIndex}
 use Rattle.notions.specs.Items.{items_of}
 use Rattle.notions.specs.Questions.{NotionQuestion, FailsFor, items_asked}
-use Rattle.notions.specs.Notions.{Grants, Passes, variables_in}
+use Rattle.notions.specs.Notions.{Grants, Passes}
 use Rattle.notions.proofs.Granted.{Passes-least, Fails-least, not_Fails-from_Passes}
 
--- the set is the least from which the variables of a tuple's items can be simulated, whatever gadget the table stands for
+-- the set is the least from which the variables of a tuple's items, and no others, can be simulated, whatever gadget the table
+-- stands for
 abbrev pub IsLeastFor : Table → List Item → List ℕ → ℕ → Type 0
-IsLeastFor table items t least = (g : Circuit) (set : ℕ) → StandsFor table g → IsSimulatable g (variables_in items t) set ↔ IsWithin least set
+IsLeastFor table items t least = (g : Circuit) (set : ℕ) → StandsFor table g → IsSimulatable g (variables_in items t ++ []) set ↔ IsWithin least set
 
 -- the answer of the test of what a notion grants
 abbrev pub IsGrantedTest : Notion → ℕ → ℕ → List Item → List ℕ → ℕ → Bool → Type 0
@@ -84,7 +85,8 @@ module _ (q : NotionQuestion) (i : Inside) (seen : question_of i ≡ q) (ready :
       least_asked set =
           let P : List Item → Type 0 = λ items. IsLeastFor scratch items t least in
           let Q : List ℕ → Type 0 = λ u. IsLeastFor scratch (map item_of list) u least in
-          subst P (items_are list same) (subst Q are is) q.gadget set stands
+          subst (λ (vs : List ℕ). IsSimulatable q.gadget vs set ↔ IsWithin least set) (append-nil (variables_in (items_asked q) t))
+          (subst P (items_are list same) (subst Q are is) q.gadget set stands)
 
       granted_asked : IsTrue granted ↔ Grants q.notion q.gadget q.t (items_asked q) t least
       granted_asked =

@@ -3,12 +3,13 @@ use Rattle.std.proofs.Common.{◌≡◌, ℕ, zero, suc, List, [], ◌∷◌, �
 use Rattle.std.specs.Prelude.{codes, decimal}
 use Rattle.list_laws.proofs.Members.{Contains-cons_cases}
 use Rattle.gadget_model.specs.Circuit.{Circuit, share, random, sum_of}
-use Rattle.wire_table.specs.Items.{Item}
+use Rattle.wire_table.specs.Items.{Item, variables_in}
 use Rattle.wire_table.specs.declared.item.ItemKind.{ItemKind}
 use Rattle.wire_table.specs.declared.item.ItemKind.TheVariants.{Internal, Output}
 use Rattle.notions.specs.declared.notion.Notion.TheVariants.{Ni, Sni, Pini}
 use Rattle.notions.specs.Items.{items_of}
-use Rattle.notions.specs.Notions.{variables_in, internal_count, shares_of, kind_at, Grants}
+use Rattle.notions.specs.Notions.{internal_count, kind_at, Grants}
+use Rattle.needed.specs.ShareCounts.{shares_of}
 
 -- two shares of one input, refreshed and not: shares a0 and a1, a random r, and the outputs c = (a0 + r, a1 + r)
 -- and d = (a0, a1)

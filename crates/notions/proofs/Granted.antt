@@ -2,11 +2,11 @@
 use Rattle.std.proofs.Common.{◌↔◌, ◌+◌, ◌*◌, ◌≤◌, ℕ, List, length, inl, inr, arith}
 use Rattle.gadget_model.specs.Circuit.{Circuit}
 use Rattle.gadget_model.specs.Simulation.{IsWithin, IsSimulatable}
-use Rattle.wire_table.specs.Items.{Item}
+use Rattle.wire_table.specs.Items.{Item, variables_in}
 use Rattle.notions.specs.declared.notion.Notion.{Notion}
 use Rattle.notions.specs.declared.notion.Notion.TheVariants.{Ni, Tni, Sni, Pini}
-use Rattle.notions.specs.Notions.{HasAtMost, Grants, Fails, Passes, variables_in, internal_count}
-use Rattle.notions.proofs.ShareCounts.{shares_of-within}
+use Rattle.notions.specs.Notions.{HasAtMost, Grants, Fails, Passes, internal_count}
+use Rattle.needed.proofs.ShareCounts.{shares_of-within}
 
 HasAtMost-within : (g : Circuit) (most small large : ℕ) → IsWithin small large → HasAtMost g most large → HasAtMost g most small
 HasAtMost-within g most small large within few input l = let a = shares_of-within input small large within in let b = few input l in omega arith

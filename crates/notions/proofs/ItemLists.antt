@@ -12,14 +12,14 @@ use Rattle.gadget_tree.specs.Gadgets.{IsGadget}
 use Rattle.list_laws.proofs.Members.{AllPairs-append}
 use Rattle.list_laws.proofs.Once.{Once, Contains-from_filter}
 use Rattle.tuple_model.specs.Limits.{most_items}
-use Rattle.wire_table.specs.Items.{Item}
+use Rattle.wire_table.specs.Items.{Item, HasFewVariables, HasVariablesBelow, numbers, output_index, kind_of}
 use Rattle.wire_table.proofs.Pigeonhole.{length-le}
 use Rattle.notions.specs.declared.notion.Notion.{Notion}
 use Rattle.notions.specs.declared.notion.Notion.TheVariants.{Ni, Tni, Sni, Pini}
-use Rattle.notions.specs.Inside.{HasFewVariables, HasVariablesBelow, HasSmallIndex, IsSmallKind}
-use Rattle.notions.specs.Items.{items_of, variable_item, column_item, inner_numbers, numbers, output_index, kind_of}
-use Rattle.notions.proofs.Ranges.{Contains-range, lt-from_range, Once-range, passes-from_filter}
-use Rattle.notions.proofs.OutputPlaces.{not_output-from_None, index-lt, place-lt}
+use Rattle.notions.specs.Inside.{HasSmallIndex, IsSmallKind}
+use Rattle.notions.specs.Items.{items_of, variable_item, column_item, inner_numbers}
+use Rattle.wire_table.proofs.Ranges.{All-range, Contains-range, lt-from_range, Once-range, passes-from_filter}
+use Rattle.wire_table.proofs.OutputPlaces.{not_output-from_None, index-lt, place-lt}
 
 -- none is what has no answer
 None-from_is_none : {X : Type 0} (o : Option X) → is_none o ≡ true → o ≡ None
@@ -58,10 +58,6 @@ module _ (g : Circuit) (is : IsGadget g) where
             outputs (All-contains_itself outputs));
         index = let m = is.few_shares in omega arith;
       }
-
-  -- what fits of each number below a bound
-  All-range : (n : ℕ) (P : ℕ → Type 0) → ((i : ℕ) → i < n → P i) → All P (range_with_len 0 n)
-  All-range n P h = All-weaker (Contains (range_with_len 0 n)) P (λ i c. h i (lt-from_range n i c)) (range_with_len 0 n) (All-contains_itself (range_with_len 0 n))
 
   Fits-variables : All (Fits (length g.variables)) (map (variable_item g) (numbers g))
   Fits-variables =

@@ -16,8 +16,8 @@ use Rattle.list_laws.proofs.Once.{Once, Contains-from_filter}
 use Rattle.wire_table.proofs.Pigeonhole.{length-le}
 use Rattle.notions.specs.Inside.{HasShareIndex}
 use Rattle.notions.specs.Notions.{HasOutput, HasIndicesIn}
-use Rattle.notions.proofs.ShareCounts.{has, ones-count}
-use Rattle.notions.proofs.Ranges.{Contains-range, lt-from_range, Once-range, Contains-filter, passes-from_filter}
+use Rattle.needed.proofs.ShareCounts.{has, ones-count}
+use Rattle.wire_table.proofs.Ranges.{Contains-range, lt-from_range, Once-range, Contains-filter, passes-from_filter}
 
 -- the bits of a number of 16, as a list
 abbrev places : ℕ → List ℕ

@@ -1,11 +1,11 @@
 -- The fields of a query as a question, and what holds of the items that it keeps.
 use Rattle.std.specs.Prelude.{◌≡◌, ℕ, ◌+◌, ◌*◌, ◌<◌, ◌≤◌, List, ◌++◌, length, map, All}
-use Rattle.gadget_limits.specs.Limits.{most_outputs, most_shares}
+use Rattle.gadget_limits.specs.Limits.{most_shares}
 use Rattle.gadget_model.specs.Simulation.{HasShare}
 use Rattle.gadget_tree.specs.Gadgets.{IsGadget}
 use Rattle.tuple_model.specs.Limits.{most_items, most_size}
 use Rattle.wire_table.specs.Tables.{StandsFor}
-use Rattle.wire_table.specs.Items.{Item, item_of}
+use Rattle.wire_table.specs.Items.{Item, item_of, HasFewVariables, HasVariablesBelow}
 use Rattle.wire_table.specs.declared.item.Item as code
 use Rattle.wire_table.specs.declared.item.ItemKind.{ItemKind}
 use Rattle.wire_table.specs.declared.item.ItemKind.TheVariants.{Internal, Output}
@@ -15,14 +15,6 @@ use Rattle.notions.specs.Questions.{NotionQuestion}
 
 abbrev pub question_of : Inside → NotionQuestion
 question_of q = record { notion = q.notion; gadget = q.gadget.now; table = q.table.now; t = q.t }
-
--- an item observes at most one share of each output
-abbrev pub HasFewVariables : Item → Type 0
-HasFewVariables item = length item.variables ≤ most_outputs
-
--- an item observes variables with numbers below a bound
-abbrev pub HasVariablesBelow : ℕ → Item → Type 0
-HasVariablesBelow bound item = All (λ v. v < bound) item.variables
 
 -- an index is one of the 16 that a share may have
 abbrev pub IsSmallKind : ItemKind → Type 0

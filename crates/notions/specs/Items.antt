@@ -1,31 +1,15 @@
 -- The items of a notion: what its sets of probes are made of.
-use Rattle.std.specs.Prelude.{ℕ, ◌+◌, ◌*◌, ◌%◌, ◌==◌, List, [], ◌∷◌, ◌++◌, length, map, codes, decimal, slice_index_or, Option, Some, None, option_map, is_none}
-use Rattle.std.specs.List.{filter, position, range_with_len}
+use Rattle.std.specs.Prelude.{ℕ, ◌+◌, ◌*◌, List, ◌++◌, length, map, codes, decimal, slice_index_or, is_none}
+use Rattle.std.specs.List.{filter, range_with_len}
 use Rattle.gadget_model.specs.Circuit.{Circuit}
-use Rattle.gadget_tree.specs.Variables.{name_at}
-use Rattle.wire_table.specs.Items.{Item}
-use Rattle.wire_table.specs.declared.item.ItemKind.{ItemKind}
-use Rattle.wire_table.specs.declared.item.ItemKind.TheVariants.{Internal, Output}
+use Rattle.wire_table.specs.Items.{Item, numbers, output_index, weighted_item}
+use Rattle.wire_table.specs.declared.item.ItemKind.TheVariants.{Output}
 use Rattle.notions.specs.declared.notion.Notion.{Notion}
 use Rattle.notions.specs.declared.notion.Notion.TheVariants.{Pini}
 
--- the index of the share of an output that a variable is, where it is one
-abbrev pub output_index : Circuit → ℕ → Option ℕ
-output_index g v = option_map (λ place. place % g.shares) (position (λ share. share == v) g.output_shares)
-
--- a share of an output with this index, or none
-abbrev pub kind_of : Option ℕ → ItemKind
-kind_of None = Internal
-kind_of (Some index) = Output index
-
 -- a variable as an item: a probe on one wire
 abbrev pub variable_item : Circuit → ℕ → Item
-variable_item g v = record {
-  name = name_at g.variables v;
-  variables = v ∷ [];
-  kind = kind_of (output_index g v);
-  weight = 1;
-}
+variable_item g v = weighted_item g 1 v
 
 -- a column as an item: the shares with one index of all outputs, observed together
 -- (Cassiers and Standaert, IEEE TIFS 2020)
@@ -38,10 +22,6 @@ column_item g index = record {
   kind = Output index;
   weight = 1;
 }
-
--- the numbers of the gadget's variables
-abbrev pub numbers : Circuit → List ℕ
-numbers g = range_with_len 0 (length g.variables)
 
 -- the variables that are no shares of outputs
 abbrev pub inner_numbers : Circuit → List ℕ

@@ -1,18 +1,13 @@
 -- The notions: from which input shares each grants that a set of probes is simulated, and which sets fail.
-use Rattle.std.specs.Prelude.{◌≡◌, ℕ, ◌+◌, ◌*◌, ◌<◌, ◌≤◌, ◌==◌, ◌⊎◌, Bool, true, false, List, [], length, count_by, flat_map, map, Contains, slice_index_or}
-use Rattle.std.specs.Int.{bit_at}
-use Rattle.std.specs.List.{range_with_len}
+use Rattle.std.specs.Prelude.{◌≡◌, ℕ, ◌+◌, ◌*◌, ◌<◌, ◌≤◌, ◌⊎◌, Bool, true, false, List, length, count_by, map, Contains, slice_index_or}
 use Rattle.gadget_model.specs.Circuit.{Circuit}
 use Rattle.gadget_model.specs.Simulation.{HasShare, IsSimulatable}
-use Rattle.wire_table.specs.Items.{Item}
+use Rattle.needed.specs.ShareCounts.{shares_of}
+use Rattle.wire_table.specs.Items.{Item, variables_in}
 use Rattle.wire_table.specs.declared.item.ItemKind.{ItemKind}
 use Rattle.wire_table.specs.declared.item.ItemKind.TheVariants.{Internal, Output}
 use Rattle.notions.specs.declared.notion.Notion.{Notion}
 use Rattle.notions.specs.declared.notion.Notion.TheVariants.{Ni, Tni, Sni, Pini}
-
--- the variables of a tuple's items, one item after the other
-abbrev pub variables_in : List Item → List ℕ → List ℕ
-variables_in items t = flat_map (λ i. slice_index_or (map (λ item. item.variables) items) i []) t
 
 -- the kind of an item, by its number
 abbrev pub kind_at : List Item → ℕ → ItemKind
@@ -29,10 +24,6 @@ internal_count items t = count_by (λ i. is_internal (kind_at items i)) t
 -- some item of a tuple is a share of an output with this index
 abbrev pub HasOutput : List Item → List ℕ → ℕ → Type 0
 HasOutput items t index = (i : ℕ) × Contains t i × (kind_at items i ≡ Output index)
-
--- how many of the 16 shares that an input may have are in a set
-unfoldable pub shares_of : ℕ → ℕ → ℕ
-shares_of input set = count_by (λ index. bit_at set (16 * input + index) == 1) (range_with_len 0 16)
 
 -- a set has at most so many shares of each input
 abbrev pub HasAtMost : Circuit → ℕ → ℕ → Type 0

@@ -1,17 +1,18 @@
 //! Which sets of input shares a notion grants the simulator of a tuple's probes.
 
 ghost use Rattle.std.specs.Prelude.{◌≡◌, ◌↔◌, ◌+◌, ◌*◌, ◌<◌, ◌≤◌, ℕ, IsTrue, All, length, map};
-ghost use Rattle.std.specs.Int.Count.{ones};
 ghost use Rattle.gadget_limits.specs.Limits.{most_inputs, most_shares};
 ghost use Rattle.gadget_model.specs.Circuit.{Circuit};
 ghost use Rattle.gadget_model.specs.Simulation.{HasShare};
 ghost use Rattle.tuple_model.specs.Limits.{most_size};
 ghost use Rattle.wire_table.specs.Items.{item_of};
 ghost use Rattle.wire_table.specs.declared.item.ItemKind.TheVariants.{Output};
-ghost use Rattle.notions.specs.Notions.{Grants, HasOutput, internal_count, is_internal, shares_of};
+ghost use Rattle.notions.specs.Notions.{Grants, HasOutput, internal_count, is_internal};
+ghost use Rattle.needed.specs.ShareCounts.{shares_of};
 ghost use Rattle.notions.specs.Inside.{HasShareIndex, HasSmallIndex};
 
 use crate::notion::Notion;
+use needed::share_indices;
 use wire_table::{Item, ItemKind};
 
 /// Whether a notion of order `t` grants a set of shares of so many inputs.
@@ -46,17 +47,7 @@ fn has_at_most(set: u64, inputs: u8, most: u32) -> bool
     requires { inputs ≤ most_inputs }
     ensures { IsTrue result ↔ ((input : ℕ) → input < inputs → shares_of input set ≤ most) }
 {
-    (0..inputs).all(|input| indices_of(set, input).count_ones() <= most)
-}
-
-// The indices of the shares of an input that are in a set, as bits.
-fn indices_of(set: u64, input: u8) -> u16
-    requires { input < most_inputs }
-    ensures count { ones result ≡ shares_of input set }
-    ensures indices { (index : ℕ) → index < most_shares →
-        HasShare result index ↔ HasShare set (16 * input + index) }
-{
-    ((set >> (16 * input)) & 0xffff) as u16
+    (0..inputs).all(|input| share_indices(set, input).count_ones() <= most)
 }
 
 // The indices of the shares of all inputs that are in a set, as bits.
@@ -66,7 +57,7 @@ fn indices(set: u64, inputs: u8) -> u16
 {
     let mut indices = 0;
     for input in 0..inputs {
-        indices |= indices_of(set, input);
+        indices |= share_indices(set, input);
     }
     indices
 }

@@ -2,10 +2,8 @@
 
 ghost use Rattle.std.specs.Prelude.{◌≡◌, ◌<◌, length, map, IfOk, OnOk};
 ghost use Rattle.std.specs.List.{range_with_len};
-ghost use Rattle.gadget_tree.specs.Gadgets.{IsGadget};
-ghost use Rattle.wire_table.specs.Items.{item_of};
-ghost use Rattle.notions.specs.Items.{items_of, variable_item, column_item, kind_of};
-ghost use Rattle.notions.specs.Items.{inner_numbers, numbers, output_index};
+ghost use Rattle.wire_table.specs.Items.{item_of, numbers};
+ghost use Rattle.notions.specs.Items.{items_of, variable_item, column_item, inner_numbers};
 ghost use Rattle.notions.specs.Inside.{GetsItems};
 
 use crate::notion::Notion;
@@ -13,7 +11,7 @@ use gadget_tree::{Gadget, Name};
 use mask_bytes::OutOfMemory;
 use smallvec::SmallVec;
 use std::alloc::Global;
-use wire_table::{Item, ItemKind};
+use wire_table::{Item, ItemKind, weighted_item};
 
 /// The items of a notion on a gadget, in order.
 pub(crate) fn items_of(
@@ -44,7 +42,7 @@ fn extend_variables(
         (GetsItems items.old.items (map (variable_item gadget.now) (numbers gadget.now)) items.new.items) }
 {
     for var in 0..gadget.vars().len() as u16 {
-        items.push(variable_item(alloc, gadget, var)?)?;
+        items.push(weighted_item(alloc, gadget, var, 1)?)?;
     }
     Ok(())
 }
@@ -56,7 +54,7 @@ fn extend_inner(alloc: Global, gadget: &Gadget, items: &mut Vec<Item>) -> Result
 {
     for var in 0..gadget.vars().len() as u16 {
         if gadget.out_of(var).is_none() {
-            items.push(variable_item(alloc, gadget, var)?)?;
+            items.push(weighted_item(alloc, gadget, var, 1)?)?;
         }
     }
     Ok(())
@@ -72,34 +70,6 @@ fn extend_columns(alloc: Global, gadget: &Gadget, items: &mut Vec<Item>) -> Resu
         items.push(column_item(alloc, gadget, index)?)?;
     }
     Ok(())
-}
-
-// A variable as an item.
-fn variable_item(alloc: Global, gadget: &Gadget, var: u16) -> Result<Item, OutOfMemory>
-    requires { var < length gadget.now.variables }
-    ensures { IfOk result (λ item. item_of item ≡ variable_item gadget.now var) }
-{
-    let name = gadget.vars()[usize::from(var)].name.clone()?;
-    let mut vars = SmallVec::new(alloc);
-    vars.push(var)?;
-    let kind = kind_of(gadget, var);
-    Ok(Item {
-        name,
-        vars,
-        kind,
-        weight: 1,
-    })
-}
-
-// Whether a variable is a share of an output.
-fn kind_of(gadget: &Gadget, var: u16) -> ItemKind
-    requires { IsGadget gadget.now }
-    ensures { result ≡ kind_of (output_index gadget.now var) }
-{
-    match gadget.out_of(var) {
-        Some((_, index)) => ItemKind::Output(index),
-        None => ItemKind::Internal,
-    }
 }
 
 // The shares with this index of all outputs as an item.

@@ -5,7 +5,6 @@ mod grants;
 mod items;
 mod notion;
 mod query;
-mod scratch;
 
 pub use notion::{Notion, NotionError};
 pub use query::NotionQuery;

@@ -11,10 +11,10 @@ ghost use Rattle.notions.specs.Questions.{FailsFor, items_asked};
 use crate::grants::is_granted;
 use crate::items::items_of;
 use crate::notion::{Notion, NotionError};
-use crate::scratch::NotionScratch;
 use cover_core::{Query, Question};
 use gadget_tree::Gadget;
 use mask_bytes::OutOfMemory;
+use needed::ItemScratch;
 use std::alloc::Global;
 use std::marker::Model;
 use std::sync::ledger::Ledger;
@@ -93,7 +93,7 @@ impl<'g> Question for NotionQuery<'g> {
 }
 
 impl<'g> Query for NotionQuery<'g> {
-    type Scratch = NotionScratch<'g>;
+    type Scratch = ItemScratch<'g>;
 
     ghost Fits = { λ question scratch. scratch ≡ question.table };
 
@@ -105,14 +105,14 @@ impl<'g> Query for NotionQuery<'g> {
         self.t
     }
 
-    fn scratch(&self, alloc: Global) -> Result<NotionScratch<'g>, OutOfMemory> {
-        NotionScratch::make(alloc, self.table)
+    fn scratch(&self, alloc: Global) -> Result<ItemScratch<'g>, OutOfMemory> {
+        ItemScratch::make(alloc, self.table)
     }
 
     /// Whether a tuple fails. Where it doesn't, a set of input shares that the notion grants simulates its variables.
     fn judge<L: Ledger>(
         &self,
-        scratch: &mut NotionScratch<'g>,
+        scratch: &mut ItemScratch<'g>,
         t: &Tuple,
         steps: &mut Steps<L>,
     ) -> bool
@@ -127,7 +127,7 @@ impl<'g> Query for NotionQuery<'g> {
     {
         steps.tick();
         let inputs = self.gadget.inputs().len() as u8;
-        let least = scratch.needed(&self.list, t.items());
+        let least = scratch.needed(&self.list, t.items(), &[]);
         !is_granted(self.notion, inputs, self.t, &self.list, t.items(), least)
     }
 }

@@ -56,7 +56,7 @@ ways-suc (suc size) (suc items) =
     ] in
     p ∙ sums ∙ sym r ∙ back
 
-ways-next : (size items : ℕ) → ways size items * (items - size) / (size + 1) ≡ ways (size + 1) items
+pub ways-next : (size items : ℕ) → ways size items * (items - size) / (size + 1) ≡ ways (size + 1) items
 ways-next size items =
     let e : suc size ≡ size + 1 = omega arith in
     let P : ℕ → Type 0 = λ n. ways size items * (items - size) / n ≡ ways n items in

@@ -8,3 +8,9 @@ pub mod WirePolynomials
 pub mod ShareProducts
 pub mod MadeTables
 pub mod Pigeonhole
+pub mod Ranges
+pub mod OutputPlaces
+pub mod ItemReads
+pub mod ItemPushes
+pub mod WireItems
+mod Examples

@@ -17,7 +17,8 @@ use Rattle.gadget_tree.specs.Gadgets.{IsGadget}
 use Rattle.gadget_tree.specs.Seen.{node_of, variables_of}
 use Rattle.bit_lists.specs.SetSums.{set_sum}
 use Rattle.wire_table.specs.declared.terms.Terms.{Terms}
-use Rattle.wire_table.specs.Tables.{Table, IsTable, StandsFor, has_bit, words_for, random_at, shares_value, randoms_value, row_bits, product_values, operands, uses_of, most_products}
+use Rattle.wire_table.specs.Tables.{Table, IsTable, StandsFor, has_bit, words_for, random_at, shares_value, randoms_value, row_bits, product_values, most_products}
+use Rattle.wire_table.specs.Uses.{operands, uses_of}
 use Rattle.bit_lists.specs.BitLists.{chosen_sum}
 use Rattle.wire_table.specs.Terms.{IsShareProduct, AreTermsOf, products_of}
 use Rattle.wire_table.specs.UseCounts.{uses_among}

@@ -1,15 +1,16 @@
 -- A table of a gadget: each variable as a sum of randoms and of products of input shares.
-use Rattle.std.specs.Prelude.{◌≡◌, ◌≢◌, ℕ, ◌+◌, ◌/◌, ◌%◌, ◌<◌, ◌≤◌, ◌^◌, ◌==◌, Bool, false, List, [], ◌∷◌, length, map, flat_map, count_by, slice_index_or, All, AllPairs}
+use Rattle.std.specs.Prelude.{◌≡◌, ◌≢◌, ℕ, ◌+◌, ◌/◌, ◌%◌, ◌<◌, ◌≤◌, ◌^◌, ◌==◌, Bool, false, List, [], length, map, slice_index_or, All, AllPairs}
 use Rattle.std.specs.List.{range_with_len}
 use Rattle.std.specs.Int.{bit_at}
 use Rattle.gadget_model.specs.Bits.{add}
-use Rattle.gadget_model.specs.Circuit.{Circuit, Node, share, random, copy, sum_of, product_of, nodes, value}
+use Rattle.gadget_model.specs.Circuit.{Circuit, value}
 use Rattle.gadget_limits.specs.Limits.{most_variables}
 use Rattle.gadget_model.specs.Simulation.{HasShare}
 use Rattle.gadget_model.specs.Polynomials.{set_product}
 use Rattle.gadget_tree.specs.Gadgets.{IsInputShare}
 use Rattle.bit_lists.specs.BitLists.{chosen_sum}
 use Rattle.bit_lists.specs.SetSums.{set_sum}
+use Rattle.wire_table.specs.Uses.{uses_of}
 
 -- The table of a gadget. `products` are the products of input shares that the variables need, each as the set of its
 -- shares, which is a number. By variable, `random_rows` has the set of its randoms, `share_rows` the places of its
@@ -44,18 +45,6 @@ shares_value t v x =
 -- the sum of a variable's randoms, of which there are n, at an assignment r
 abbrev pub randoms_value : Table → ℕ → ℕ → List Bool → Bool
 randoms_value t n v r = set_sum n (slice_index_or t.random_rows v 0) (random_at r)
-
--- the variables that a node names, by operand place
-abbrev pub operands : Node → List ℕ
-operands (share k) = []
-operands (random k) = []
-operands (copy a) = a ∷ []
-operands (sum_of a b) = a ∷ b ∷ []
-operands (product_of a b) = a ∷ b ∷ []
-
--- how many operand places of the gadget name variable v
-unfoldable pub uses_of : Circuit → ℕ → ℕ
-uses_of g v = count_by (λ a. a == v) (flat_map operands (nodes g))
 
 -- how many words a row of n bits has
 abbrev pub words_for : ℕ → ℕ

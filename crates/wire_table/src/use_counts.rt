@@ -4,7 +4,7 @@ ghost use Rattle.std.specs.Prelude.{◌≡◌, ◌==◌, ◌≤◌, length, map,
 ghost use Rattle.std.specs.List.{range_with_len};
 ghost use Rattle.gadget_limits.specs.Limits.{most_variables};
 ghost use Rattle.gadget_tree.specs.Seen.{node_of};
-ghost use Rattle.wire_table.specs.Tables.{operands};
+ghost use Rattle.wire_table.specs.Uses.{operands};
 ghost use Rattle.wire_table.specs.UseCounts.{uses_among};
 
 use gadget_tree::{Var, VarKind};

@@ -6,5 +6,5 @@ loop-input-init c = λ index l. no_indices c.args.set index
 
 pub loop-input-preserved : goal.loop-input-preserved
 loop-input-preserved c = λ index l.
-    more_indices c.loop-input.indices c.indices_of-indices.result c.loop-input.input c.args.set index (c.loop-input.invariant index l)
-    (c.indices_of-indices.ensures.indices index l)
+    more_indices c.loop-input.indices c.share_indices-indices.result c.loop-input.input c.args.set index (c.loop-input.invariant index l)
+    (c.share_indices-indices.ensures.indices index l)

@@ -2,7 +2,7 @@ use Rattle.std.proofs.Common.{ap, sym, ◌∙◌, arith, map}
 use Rattle.wire_table.specs.Items.{item_of}
 use Rattle.list_laws.proofs.Counts.{one_if}
 use Rattle.notions.specs.Notions.{kind_at, is_internal}
-use Rattle.notions.proofs.ItemReads.{kind_at-list, internal_count-more, from_bool-one_if, one_if-le}
+use Rattle.notions.proofs.InternalCounts.{kind_at-list, internal_count-more, from_bool-one_if, one_if-le}
 use Rattle.notions.proofs.grants.internal_count.Goals as goal
 
 pub loop-item-preserved : goal.loop-item-preserved

@@ -7,7 +7,8 @@ use Rattle.wire_table.specs.declared.item.ItemKind.TheVariants.{Output}
 use Rattle.notions.specs.Inside.{HasSmallIndex}
 use Rattle.notions.specs.Notions.{kind_at, HasOutput}
 use Rattle.notions.proofs.IndexBits.{more_outputs}
-use Rattle.notions.proofs.ItemReads.{fact_at, kind_at-list}
+use Rattle.wire_table.proofs.ItemReads.{fact_at}
+use Rattle.notions.proofs.InternalCounts.{kind_at-list}
 use Rattle.notions.proofs.grants.output_indices.Goals as goal
 
 pub index_bit-indices-requires : goal.index_bit-indices-requires

@@ -1,7 +1,7 @@
 use Rattle.std.proofs.Common.{map}
 use Rattle.wire_table.specs.Items.{item_of}
 use Rattle.notions.specs.Items.{column_item}
-use Rattle.notions.proofs.ItemReads.{push_next}
+use Rattle.wire_table.proofs.ItemPushes.{push_next}
 use Rattle.notions.proofs.items.extend_columns.Goals as goal
 
 pub loop-index-preserved : goal.loop-index-preserved

@@ -1,7 +1,7 @@
 use Rattle.std.proofs.Common.{◌++◌, List, map, ap, ◌∙◌}
 use Rattle.std.specs.List.{range_with_len}
-use Rattle.wire_table.specs.Items.{Item, item_of}
-use Rattle.notions.specs.Items.{variable_item, column_item, inner_numbers, numbers}
+use Rattle.wire_table.specs.Items.{Item, item_of, numbers}
+use Rattle.notions.specs.Items.{variable_item, column_item, inner_numbers}
 use Rattle.notions.proofs.ItemLists.{items_of-inner, items_of-all}
 use Rattle.notions.proofs.items.items_of.Goals as goal
 use Rattle.notions.proofs.items.items_of.Goals.{in-Ni+in_ok-extend_variables-in-Ni, in-Pini+in_ok-extend_inner-in-Pini+in_ok-extend_columns-in-Pini}

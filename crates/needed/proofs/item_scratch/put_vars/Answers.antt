@@ -1,10 +1,9 @@
 use Rattle.std.proofs.Common.{◌≡◌, ◌++◌, ℕ, ap, sym, ◌∙◌, arith, map, length, get_or, [], length-append}
 use Rattle.std.proofs.lemmas.Result.{IfOk-at_ok}
-use Rattle.wire_table.specs.Items.{Item, item_of}
+use Rattle.wire_table.specs.Items.{Item, item_of, HasFewVariables}
 use Rattle.wire_table.specs.declared.item.Item as code
-use Rattle.notions.specs.Inside.{HasFewVariables}
-use Rattle.notions.proofs.ItemReads.{fact_at, variables_at-list, variables_in-more}
-use Rattle.notions.proofs.scratch.put_vars.Goals as goal
+use Rattle.wire_table.proofs.ItemReads.{fact_at, variables_at-list, variables_in-more}
+use Rattle.needed.proofs.item_scratch.put_vars.Goals as goal
 
 pub unwrap-requires : goal.unwrap-requires
 unwrap-requires c =

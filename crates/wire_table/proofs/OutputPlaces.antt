@@ -10,7 +10,7 @@ use Rattle.std.proofs.lemmas.List.Elements.{Contains-get_or}
 use Rattle.std.proofs.lemmas.List.Sums.{position_or_len_is, fails_before_first, passes_at_first}
 use Rattle.gadget_model.specs.Circuit.{Circuit}
 use Rattle.gadget_tree.specs.Gadgets.{IsGadget, IsOutOf}
-use Rattle.notions.specs.Items.{output_index}
+use Rattle.wire_table.specs.Items.{output_index}
 
 -- the first place at which a number stands in a list
 abbrev place_of_number : ℕ → List ℕ → ℕ
@@ -93,3 +93,12 @@ none_by_map (Some o) false e = refl
 -- whether it answers none
 pub is_inner : (g : Circuit) → IsGadget g → (v : ℕ) (r : Option (ℕ × ℕ)) (b : Bool) → IsOutOf g v r → is_some r ≡ not b → is_none (output_index g v) ≡ b
 is_inner g h v r b out e = ap is_none (sym (output_index-from_IsOutOf g h v r out)) ∙ none_by_map r b e
+
+-- some stays some
+some_by_map : (r : Option (ℕ × ℕ)) → is_some (option_map (λ o. o.1) r) ≡ is_some r
+some_by_map None = refl
+some_by_map (Some o) = refl
+
+-- whether it answers some
+pub is_output : (g : Circuit) → IsGadget g → (v : ℕ) (r : Option (ℕ × ℕ)) → IsOutOf g v r → is_some (output_index g v) ≡ is_some r
+is_output g h v r out = ap is_some (sym (output_index-from_IsOutOf g h v r out)) ∙ some_by_map r

@@ -1,6 +1,6 @@
 use Rattle.std.proofs.Common.{sym, ◌∙◌}
-use Rattle.notions.proofs.ShareCounts.{ones-shares, bit_at-indices}
-use Rattle.notions.proofs.grants.indices_of.Goals as goal
+use Rattle.needed.proofs.ShareCounts.{ones-shares, bit_at-indices}
+use Rattle.needed.proofs.indices.share_indices.Goals as goal
 
 pub returns-clause-count : goal.returns-clause-count
 returns-clause-count c = ones-shares c.args.set c.args.input

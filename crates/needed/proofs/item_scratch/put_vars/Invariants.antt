@@ -1,7 +1,6 @@
 use Rattle.std.proofs.Common.{◌≡◌, ◌*◌, ◌≤◌, length, map, take}
-use Rattle.wire_table.specs.Items.{item_of}
-use Rattle.notions.specs.Notions.{variables_in}
-use Rattle.notions.proofs.scratch.put_vars.Given as goal
+use Rattle.wire_table.specs.Items.{item_of, variables_in}
+use Rattle.needed.proofs.item_scratch.put_vars.Given as goal
 
 abbrev pub invariant-loop-item : goal.invariant-loop-item
 invariant-loop-item l = record {

@@ -1,8 +1,8 @@
 use Rattle.std.proofs.Common.{ℕ, ap, sym, ◌∙◌, Option}
 use Rattle.std.specs.Prelude.{option_map}
-use Rattle.notions.specs.Items.{kind_of}
-use Rattle.notions.proofs.OutputPlaces.{output_index-from_IsOutOf}
-use Rattle.notions.proofs.items.kind_of.Goals as goal
+use Rattle.wire_table.specs.Items.{kind_of}
+use Rattle.wire_table.proofs.OutputPlaces.{output_index-from_IsOutOf}
+use Rattle.wire_table.proofs.item.kind_of.Goals as goal
 
 pub returns-in-Some : goal.returns-in-Some
 returns-in-Some c =

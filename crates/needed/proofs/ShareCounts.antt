@@ -12,7 +12,7 @@ use Rattle.std.proofs.Math.Nat.{div-div-eq-div-mul, mod-eq_of_lt}
 use Rattle.std.proofs.Math.Pow.{field, mod-mod-pow}
 use Rattle.gadget_model.specs.Simulation.{IsWithin}
 use Rattle.list_laws.proofs.Counts.{one_if, count_by-cons, count_by-le, count_by-agree}
-use Rattle.notions.specs.Notions.{shares_of}
+use Rattle.needed.specs.ShareCounts.{shares_of}
 
 -- whether a number has a bit
 abbrev pub has : ℕ → ℕ → Bool
