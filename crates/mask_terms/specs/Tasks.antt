@@ -1,8 +1,8 @@
 -- The tasks and their words.
-use Rattle.std.specs.Prelude.{ℕ, List, [], ◌∷◌, Option, codes, find}
+use Rattle.std.specs.Prelude.{ℕ, Bool, true, false, List, [], ◌∷◌, Option, codes, find}
 use Rattle.std.specs.Str.{bytes_eq}
 use Rattle.mask_terms.specs.declared.task.Task.{Task}
-use Rattle.mask_terms.specs.declared.task.Task.TheVariants.{Ni, Tni, Sni, Pini}
+use Rattle.mask_terms.specs.declared.task.Task.TheVariants.{Ni, Tni, Sni, Pini, Rpc, Rpe}
 
 -- the word that names a task
 abbrev pub task_word : Task → List ℕ
@@ -10,11 +10,19 @@ task_word Ni = codes "ni"
 task_word Tni = codes "tni"
 task_word Sni = codes "sni"
 task_word Pini = codes "pini"
+task_word Rpc = codes "rpc"
+task_word Rpe = codes "rpe"
 
 -- all tasks
 abbrev pub tasks : List Task
-tasks = Ni ∷ Tni ∷ Sni ∷ Pini ∷ []
+tasks = Ni ∷ Tni ∷ Sni ∷ Pini ∷ Rpc ∷ Rpe ∷ []
 
 -- the task that a word names
 abbrev pub task_named : List ℕ → Option Task
 task_named word = find (λ task. bytes_eq word (task_word task)) tasks
+
+-- whether a task is one of random probing, where wires leak by chance
+abbrev pub leaks : Task → Bool
+leaks Rpc = true
+leaks Rpe = true
+leaks _ = false

@@ -1,7 +1,7 @@
 //! What a gadget is checked for.
 
 ghost use Rattle.std.specs.Prelude.{◌≡◌};
-ghost use Rattle.mask_terms.specs.Tasks.{task_named, task_word};
+ghost use Rattle.mask_terms.specs.Tasks.{leaks, task_named, task_word};
 
 /// What a gadget is checked for.
 #[derive(Clone, Copy, Debug, PartialEq, Eq, Drop)]
@@ -14,6 +14,10 @@ pub enum Task {
     Sni,
     /// Probe-isolating non-interference.
     Pini,
+    /// Random probing composability.
+    Rpc,
+    /// Random probing expandability.
+    Rpe,
 }
 
 impl Task {
@@ -26,6 +30,8 @@ impl Task {
             Task::Tni => "tni",
             Task::Sni => "sni",
             Task::Pini => "pini",
+            Task::Rpc => "rpc",
+            Task::Rpe => "rpe",
         }
     }
 
@@ -38,7 +44,16 @@ impl Task {
             "tni" => Some(Task::Tni),
             "sni" => Some(Task::Sni),
             "pini" => Some(Task::Pini),
+            "rpc" => Some(Task::Rpc),
+            "rpe" => Some(Task::Rpe),
             _ => None,
         }
+    }
+
+    /// Whether the task is one of random probing, where wires leak by chance.
+    pub fn leaks(self) -> bool
+        ensures { result ≡ leaks self }
+    {
+        matches!(self, Task::Rpc | Task::Rpe)
     }
 }

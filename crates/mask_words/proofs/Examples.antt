@@ -3,10 +3,10 @@ use Rattle.std.proofs.Common.{refl, codes, true, false, List, [], ◌∷◌, ◌
 use Rattle.std.specs.Prelude.{Ok, Err}
 use Rattle.mask_terms.specs.declared.opt.Opt.TheVariants as opt
 use Rattle.mask_terms.specs.declared.task.Task.{Task}
-use Rattle.mask_terms.specs.declared.task.Task.TheVariants.{Ni, Tni, Sni, Pini}
+use Rattle.mask_terms.specs.declared.task.Task.TheVariants.{Ni, Tni, Sni, Pini, Rpc, Rpe}
 use Rattle.mask_terms.specs.declared.usage_kind.UsageKind.{UsageKind}
 use Rattle.mask_terms.specs.declared.usage_kind.UsageKind.TheVariants as kind
-use Rattle.mask_terms.specs.declared.wires.Wires.TheVariants.{Copies}
+use Rattle.mask_terms.specs.declared.wires.Wires.TheVariants.{Copies, Plain}
 use Rattle.mask_words.specs.Reading.{Text, items_from}
 use Rattle.mask_words.specs.Settings.{settings_of}
 use Rattle.mask_words.specs.declared.answer.Settings.{Settings}
@@ -133,6 +133,30 @@ leading_zeros : Ask (codes "ni" ∷ codes "0000000001" ∷ codes "--workers=0000
 unfolding items_from
 leading_zeros = refl
 
+-- ---- tasks of random probing
+
+the_default_size : Ask (codes "rpc" ∷ codes "1" ∷ []) (record (plain Rpc 1) { size = 3 })
+unfolding items_from
+the_default_size = refl
+
+a_size_and_wires : Ask (codes "rpe" ∷ codes "2" ∷ codes "--size" ∷ codes "0" ∷ codes "--wires=plain" ∷ [])
+    (record (plain Rpe 2) { size = 0; wires = Plain })
+unfolding items_from
+a_size_and_wires = refl
+
+the_greatest_order_and_size : Ask (codes "rpc" ∷ codes "--size=6" ∷ codes "16" ∷ [])
+    (record (plain Rpc 16) { size = 6 })
+unfolding items_from
+the_greatest_order_and_size = refl
+
+too_many_shares : AreWrong (codes "rpe" ∷ codes "17" ∷ []) kind.Argument
+unfolding items_from
+too_many_shares = refl
+
+too_great_a_size_of_tuples : AreWrong (codes "rpc" ∷ codes "1" ∷ codes "--size=7" ∷ []) (kind.Value opt.Size)
+unfolding items_from
+too_great_a_size_of_tuples = refl
+
 -- ---- the task and its argument
 
 an_unknown_task : AreWrong (codes "xni" ∷ codes "1" ∷ []) kind.Task
@@ -146,10 +170,6 @@ a_task_in_capitals = refl
 no_task_demo : AreWrong (codes "demo" ∷ codes "2" ∷ []) kind.Task
 unfolding items_from
 no_task_demo = refl
-
-no_task_rpc : AreWrong (codes "rpc" ∷ codes "1" ∷ []) kind.Task
-unfolding items_from
-no_task_rpc = refl
 
 the_task_first : AreWrong (codes "xni" ∷ codes "7" ∷ codes "--workers=0" ∷ []) kind.Task
 unfolding items_from
@@ -232,7 +252,7 @@ a_bad_value_before_an_unused_size : AreWrong (codes "ni" ∷ codes "1" ∷ codes
 unfolding items_from
 a_bad_value_before_an_unused_size = refl
 
--- ---- options that no task uses
+-- ---- options that no notion uses
 
 an_unused_size : settings_of (codes "ni" ∷ codes "1" ∷ codes "--size" ∷ codes "2" ∷ []) ≡ Err SizeNotUsed
 unfolding items_from

@@ -9,6 +9,10 @@ use Rattle.mask_words.specs.declared.options.NumberOption.{NumberOption}
 abbrev pub most_order : ℕ
 most_order = 6
 
+-- the greatest order of a task of random probing
+abbrev pub most_leaking_order : ℕ
+most_leaking_order = 16
+
 -- At least this many workers share the tuples.
 abbrev pub least_workers : ℕ
 least_workers = 1

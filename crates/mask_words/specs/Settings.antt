@@ -1,14 +1,16 @@
 -- The settings that a command line gives, or the first check that fails.
-use Rattle.std.specs.Prelude.{ℕ, ◌≡◌, ◌≢◌, ◌||◌, List, Option, Some, None, Result, Ok, Err, MatchResult, if◌then◌else◌, is_some}
-use Rattle.mask_terms.specs.Tasks.{task_named}
+use Rattle.std.specs.Prelude.{ℕ, ◌≡◌, ◌≢◌, ◌&&◌, ◌||◌, not, if◌then◌else◌, List}
+use Rattle.std.specs.Prelude.{Option, Some, None, is_some, Result, Ok, Err, MatchResult}
+use Rattle.mask_terms.specs.Tasks.{leaks, task_named}
 use Rattle.mask_terms.specs.Wires.{wires_named}
 use Rattle.mask_terms.specs.declared.opt.Opt.TheVariants as opt
+use Rattle.mask_terms.specs.declared.task.Task.{Task}
 use Rattle.mask_terms.specs.declared.usage_kind.UsageKind.TheVariants as kind
 use Rattle.mask_terms.specs.declared.wires.Wires.{Wires}
 use Rattle.mask_terms.specs.declared.wires.Wires.TheVariants.{Copies}
 use Rattle.mask_words.specs.Numbers.{number_between}
 use Rattle.mask_words.specs.Options as options
-use Rattle.mask_words.specs.Options.{most_order}
+use Rattle.mask_words.specs.Options.{most_order, most_leaking_order}
 use Rattle.mask_words.specs.Reading.{CommandLine, command_line}
 use Rattle.mask_words.specs.declared.answer.Settings.{Settings}
 use Rattle.mask_words.specs.declared.answer.WordsError.{WordsError}
@@ -36,22 +38,27 @@ abbrev pub wires_by : Option (List ℕ) → Result Wires WordsError
 wires_by None = Ok Copies
 wires_by (Some text) = or_error (wires_named text) (Usage (kind.Value opt.Wires))
 
--- The checks of a command line that could be read, in their order. No task uses `--size` and `--wires`.
+-- the greatest order that a task takes
+abbrev pub greatest_order : Task → ℕ
+greatest_order task = if leaks task then most_leaking_order else most_order
+
+-- The checks of a command line that could be read, in their order. A task of random probing has the size that is given
+-- beside its order; a notion's size is its order, and it uses neither `--size` nor `--wires`.
 abbrev pub settings_from : CommandLine → Result Settings WordsError
 settings_from l =
     and_then (or_error (task_named l.task) (Usage kind.Task)) λ task.
-    and_then (or_error (number_between 0 most_order l.argument) (Usage kind.Argument)) λ t.
-    and_then (value_by options.size l.size) λ _.
+    and_then (or_error (number_between 0 (greatest_order task) l.argument) (Usage kind.Argument)) λ t.
+    and_then (value_by options.size l.size) λ size.
     and_then (value_by options.workers l.workers) λ workers.
     and_then (value_by options.block l.block) λ block.
     and_then (value_by options.budget l.budget) λ budget.
     and_then (value_by options.words l.words) λ words.
     and_then (wires_by l.wires) λ wires.
-    if is_some l.size || is_some l.wires then Err SizeNotUsed
+    if not (leaks task) && (is_some l.size || is_some l.wires) then Err SizeNotUsed
     else Ok (record {
       task = task;
       t = t;
-      size = t;
+      size = if leaks task then size else t;
       workers = workers;
       block = block;
       budget = budget;

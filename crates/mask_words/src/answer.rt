@@ -6,7 +6,7 @@ use mask_terms::{Task, UsageKind, Wires};
 #[derive(Clone, Copy, Debug, PartialEq, Eq, Drop)]
 pub struct Settings {
     pub task: Task,
-    /// The order of the task's notion.
+    /// The task's order.
     pub t: u8,
     /// The greatest size of a tuple.
     pub size: u8,
@@ -18,7 +18,7 @@ pub struct Settings {
     pub budget: u64,
     /// How many words the first table has.
     pub words: u32,
-    /// Which wires are probed.
+    /// Which wires leak.
     pub wires: Wires,
     /// Whether the report tells how many tuples failed.
     pub tallies: bool,

@@ -10,6 +10,9 @@ use mask_terms::{Opt, UsageKind};
 /// The greatest order of a notion, and the greatest size of a tuple.
 pub(crate) const MOST_ORDER: u64 = 6;
 
+/// The greatest order of a task of random probing.
+pub(crate) const MOST_LEAKING_ORDER: u64 = 16;
+
 /// At least this many workers share the tuples.
 const LEAST_WORKERS: u64 = 1;
 

@@ -61,13 +61,33 @@ fn options_stand_anywhere(rt: HostRuntime) {
 fn each_error_comes(rt: HostRuntime) {
     let alloc = rt.alloc();
     assert!(rt; of_words(alloc, &["mask", "--help"]) == Err(WordsError::Usage(UsageKind::Words)));
-    assert!(rt; of_words(alloc, &["mask", "rpc", "1"]) == Err(WordsError::Usage(UsageKind::Task)));
+    assert!(rt; of_words(alloc, &["mask", "RPC", "1"]) == Err(WordsError::Usage(UsageKind::Task)));
     assert!(rt;
         of_words(alloc, &["mask", "ni", "7"]) == Err(WordsError::Usage(UsageKind::Argument))
     );
     let value = Err(WordsError::Usage(UsageKind::Value(Opt::Workers)));
     assert!(rt; of_words(alloc, &["mask", "ni", "1", "--workers=+1"]) == value);
     assert!(rt; of_words(alloc, &["mask", "ni", "1", "--size=2"]) == Err(WordsError::SizeNotUsed));
+}
+
+#[test]
+fn random_probing_has_a_size_and_wires(rt: HostRuntime) {
+    let alloc = rt.alloc();
+    let words = ["mask", "rpe", "16", "--size=6", "--wires", "plain"];
+    let Ok(given) = of_words(alloc, &words) else {
+        panic!(rt; "refused")
+    };
+    assert!(rt; given.task == Task::Rpe && given.t == 16 && given.size == 6);
+    assert!(rt; given.wires == Wires::Plain && given.workers == 4);
+    let Ok(given) = of_words(alloc, &["mask", "rpc", "0"]) else {
+        panic!(rt; "refused")
+    };
+    assert!(rt; given.task == Task::Rpc && given.t == 0 && given.size == 3);
+    assert!(rt; given.wires == Wires::Copies);
+    let argument = Err(WordsError::Usage(UsageKind::Argument));
+    assert!(rt; of_words(alloc, &["mask", "rpc", "17"]) == argument);
+    let size = Err(WordsError::Usage(UsageKind::Value(Opt::Size)));
+    assert!(rt; of_words(alloc, &["mask", "rpc", "1", "--size", "7"]) == size);
 }
 
 #[test]
