@@ -1,9 +1,12 @@
 -- The text of a report.
-use Rattle.std.specs.Prelude.{ℕ, ◌<◌, Bool, true, false, List, [], ◌∷◌, ◌++◌, length, map, All, flat_map, codes, decimal, slice_index_or}
+use Rattle.std.specs.Prelude.{ℕ, ◌<◌, Bool, true, false, List, [], ◌∷◌, ◌++◌}
+use Rattle.std.specs.Prelude.{length, map, All, flat_map, codes, decimal, slice_index_or}
 use Rattle.gadget_model.specs.Circuit.{Circuit}
 use Rattle.wire_table.specs.Items.{Item}
 use Rattle.mask_terms.specs.Tasks.{task_word}
+use Rattle.mask_terms.specs.Wires.{wires_word}
 use Rattle.mask_terms.specs.declared.task.Task.{Task}
+use Rattle.mask_terms.specs.declared.wires.Wires.{Wires}
 
 abbrev pub newline : List ℕ
 newline = 10 ∷ []
@@ -28,6 +31,14 @@ space_line items size tuples =
 -- The head: the check, the gadget, and the tuples that are asked about.
 abbrev pub head : Task → ℕ → Circuit → ℕ → ℕ → ℕ → List ℕ
 head task t g items size tuples = check_line task t ++ gadget_line g ++ space_line items size tuples
+
+-- the wires that leak: their kind, and how many there are
+unfoldable pub wires_line : Wires → ℕ → List ℕ
+wires_line wires count = codes "wires " ++ wires_word wires ++ codes " " ++ decimal count ++ newline
+
+-- the event that the lines after it speak of
+abbrev pub event_line : List ℕ → List ℕ
+event_line name = codes "event " ++ name ++ newline
 
 -- the name of the item with a number
 abbrev pub item_name : List Item → ℕ → List ℕ

@@ -13,9 +13,10 @@ use Rattle.mask_terms.specs.Options.{option_word}
 use Rattle.mask_terms.specs.declared.usage_kind.UsageKind.{UsageKind}
 use Rattle.mask_terms.specs.declared.usage_kind.UsageKind.TheVariants.{Words, Task, Argument, Value}
 use Rattle.report.specs.declared.status.NotFor.{NotFor}
-use Rattle.report.specs.declared.status.NotFor.TheVariants.{SeveralOutputs}
+use Rattle.report.specs.declared.status.NotFor.TheVariants.{SeveralOutputs, ManyInputs, OrderTooLarge, ManyEvents}
 use Rattle.report.specs.declared.status.Status.{Status}
-use Rattle.report.specs.declared.status.Status.TheVariants.{Yes, No, Usage, SizeNotUsed, File, Wires, TooLong, NotForGadget, Budget, ReadFault, WriteFault, OutOfMemory}
+use Rattle.report.specs.declared.status.Status.TheVariants.{Yes, No, Listed, Usage, SizeNotUsed, File, Wires, TooLong}
+use Rattle.report.specs.declared.status.Status.TheVariants.{NotForGadget, Budget, ReadFault, WriteFault, OutOfMemory}
 use Rattle.report.specs.declared.texts.StatusRow.{StatusRow}
 
 -- a row of the table: an exit status and a text, which has no line feed
@@ -79,11 +80,15 @@ wires_row wire_error.OutOfMemory = memory_row
 -- why the gadget doesn't suit the task
 abbrev pub not_for_text : NotFor → List ℕ
 not_for_text SeveralOutputs = codes "mask: sni needs one output"
+not_for_text ManyInputs = codes "mask: rpe needs at most two inputs"
+not_for_text OrderTooLarge = codes "mask: order too large"
+not_for_text (ManyEvents count) = codes "mask: too many events: " ++ decimal count
 
 -- The table of the statuses. The text says why there is no report, and is empty where there is one.
 abbrev pub row_of : Status → StatusRow
 row_of Yes = row 0 []
 row_of No = row 1 []
+row_of Listed = row 0 []
 row_of (Usage kind) = row 2 (usage_text kind)
 row_of SizeNotUsed = row 2 (codes "mask: --size and --wires are for rpc and rpe")
 row_of (File error) = file_row error

@@ -2,14 +2,16 @@
 
 ghost use Rattle.std.specs.Prelude.{◌≡◌, ◌<◌, [], ◌++◌, length, map, All, IfOk, OnOk, OnErr, codes, string_bytes};
 ghost use Rattle.wire_table.specs.Items.{item_of};
-ghost use Rattle.report.specs.Report.{AreAmong, head, check_line as check_line_of, gadget_line as gadget_line_of, space_line as space_line_of, item_name, fail_line, fail_lines, verdict};
+ghost use Rattle.report.specs.Report.{AreAmong, head, event_line, item_name, fail_line, fail_lines, verdict};
+ghost use Rattle.report.specs.Report.{check_line as check_line_of, gadget_line as gadget_line_of};
+ghost use Rattle.report.specs.Report.{space_line as space_line_of, wires_line as wires_line_of};
 ghost use Rattle.report.specs.Additions.{Appends};
 
 use antichain_list::Antichain;
-use gadget_tree::Gadget;
+use gadget_tree::{Gadget, Name};
 use itoa::Buffer;
 use mask_bytes::OutOfMemory;
-use mask_terms::Task;
+use mask_terms::{Task, Wires};
 use std::alloc::Global;
 use std::marker::Model;
 use wire_table::Item;
@@ -64,6 +66,25 @@ impl Report {
         text.push_str(&gadget_line(alloc, gadget)?)?;
         text.push_str(&space_line(alloc, items, size, tuples)?)?;
         Ok(self.bytes.extend_from_slice(text.as_bytes())?)
+    }
+
+    /// Adds the line of the wires that leak, of which there are `count`.
+    pub fn wires(&mut self, wires: Wires, count: u64) -> Result<(), OutOfMemory>
+        ensures added { OnOk result (self.new ≡ self.old ++ wires_line_of wires count) }
+        ensures refused { OnErr result (self.new ≡ self.old) }
+    {
+        let text = wires_line(*self.bytes.allocator(), wires, count)?;
+        Ok(self.bytes.extend_from_slice(text.as_bytes())?)
+    }
+
+    /// Adds the line of an event, before those of its failing tuples.
+    pub fn event(&mut self, name: &Name) -> Result<(), OutOfMemory>
+        ensures added { OnOk result (self.new ≡ self.old ++ event_line name.now) }
+        ensures refused { OnErr result (self.new ≡ self.old) }
+    {
+        let pieces: [&[u8]; 3] = [b"event ", name.bytes(), b"\n"];
+        let line = pieces.concat(*self.bytes.allocator())?;
+        Ok(self.bytes.extend_from_slice(&line)?)
     }
 
     /// Adds a line for each failing tuple of the list, with the names of its items.
@@ -123,6 +144,15 @@ fn space_line(alloc: Global, items: u16, size: u8, tuples: u64) -> Result<String
     ensures { IfOk result (λ text. string_bytes text ≡ space_line_of items size tuples) }
 {
     Ok(format!(in alloc; "space items {items} size {size} tuples {tuples}\n")?)
+}
+
+// The line of the wires that leak.
+#[tactic(auto, unfolding(crate::specs::Report::wires_line))]
+fn wires_line(alloc: Global, wires: Wires, count: u64) -> Result<String, OutOfMemory>
+    ensures { IfOk result (λ text. string_bytes text ≡ wires_line_of wires count) }
+{
+    let word = wires.word();
+    Ok(format!(in alloc; "wires {word} {count}\n")?)
 }
 
 // Adds a line for each tuple of the list.

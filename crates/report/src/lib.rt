@@ -8,6 +8,6 @@ mod texts;
 
 pub use builder::Report;
 pub use line::Line;
-pub use mask_terms::{Opt, Task, UsageKind};
+pub use mask_terms::{Opt, Task, UsageKind, Wires};
 pub use status::{NotFor, Status};
 pub use texts::{exit_status, status_text};

@@ -14,6 +14,12 @@ use wire_table::WireError;
 pub enum NotFor {
     /// Strong non-interference speaks of gadgets with one output.
     SeveralOutputs,
+    /// Expandability speaks of gadgets with at most two inputs.
+    ManyInputs,
+    /// The order is more than the number of shares, or, for expandability, as much.
+    OrderTooLarge,
+    /// There would be so many events, which is more than a check goes through.
+    ManyEvents(u64),
 }
 
 /// How a check ends.
@@ -23,6 +29,8 @@ pub enum Status {
     Yes,
     /// Some set of probes fails, and the report lists the minimal ones.
     No,
+    /// The report lists the minimal failing sets of wires of each event.
+    Listed,
     Usage(UsageKind),
     /// `--size` or `--wires` was given with a task that uses neither.
     SizeNotUsed,

@@ -1,9 +1,9 @@
 //! What the caller of the program sees of a status: a line of text, and an exit status.
 
-ghost use Rattle.std.specs.Prelude.{◌≡◌, ◌≤◌, length};
+ghost use Rattle.std.specs.Prelude.{◌≡◌, ◌≤◌, ◌++◌, length, decimal};
 ghost use Rattle.mask_terms.specs.declared.usage_kind.UsageKind.TheVariants.{Value};
-ghost use Rattle.report.specs.declared.status.Status.TheVariants.{Budget};
-ghost use Rattle.report.specs.Texts.{row, line_row, memory_row, usage_text, header_text, what_text, file_row, wires_row, not_for_text, row_of};
+ghost use Rattle.report.specs.Texts.{row, line_row, memory_row, file_row, wires_row, row_of};
+ghost use Rattle.report.specs.Texts.{usage_text, header_text, what_text, not_for_text};
 
 use crate::line::Line;
 use crate::status::{NotFor, Status};
@@ -39,15 +39,15 @@ fn row_of(status: &Status) -> StatusRow
     ensures { result ≡ row_of status.now }
 {
     match status {
-        Status::Yes => row(0, ""),
+        Status::Yes | Status::Listed => row(0, ""),
         Status::No => row(1, ""),
         Status::Usage(kind) => usage_row(*kind),
         Status::SizeNotUsed => row(2, "mask: --size and --wires are for rpc and rpe"),
         Status::File(error) => file_row(*error),
         Status::Wires(error) => wires_row(*error),
         Status::TooLong => row(3, "mask: file too long"),
-        Status::NotForGadget(why) => row(4, not_for_text(*why)),
-        Status::Budget(count) => budget_row(*count),
+        Status::NotForGadget(why) => not_for_row(*why),
+        Status::Budget(count) => count_row(5, "mask: over budget: ", *count),
         Status::ReadFault => row(6, "mask: read failed"),
         Status::WriteFault => row(7, "mask: write failed"),
         Status::OutOfMemory => memory_row(),
@@ -167,23 +167,26 @@ fn many_row(what: What) -> StatusRow
     refused
 }
 
-// More tuples than the budget has.
-fn budget_row(count: u64) -> StatusRow
-    ensures { result ≡ row_of (Budget count) }
+// Too large a number, and which.
+fn count_row(exit: u8, text: &str, count: u64) -> StatusRow
+    requires { length text.now ≤ 50 }
+    ensures { result ≡ row exit (text.now ++ decimal count) }
 {
     let mut digits = Buffer::new();
-    let mut refused = row(5, "mask: over budget: ");
+    let mut refused = row(exit, text);
     refused.text.push(digits.format(count));
     refused
 }
 
 // Why a gadget doesn't suit the task.
-fn not_for_text(why: NotFor) -> &'static str
-    ensures text { result.now ≡ not_for_text why }
-    ensures short { length result.now ≤ 50 }
+fn not_for_row(why: NotFor) -> StatusRow
+    ensures { result ≡ row 4 (not_for_text why) }
 {
     match why {
-        NotFor::SeveralOutputs => "mask: sni needs one output",
+        NotFor::SeveralOutputs => row(4, "mask: sni needs one output"),
+        NotFor::ManyInputs => row(4, "mask: rpe needs at most two inputs"),
+        NotFor::OrderTooLarge => row(4, "mask: order too large"),
+        NotFor::ManyEvents(count) => count_row(4, "mask: too many events: ", count),
     }
 }
 
@@ -219,9 +222,10 @@ mod tests {
     use super::*;
 
     // Statuses that no other table has, and the text and the exit status of each.
-    const STATUSES: [(Status, &[u8], u8); 14] = [
+    const STATUSES: [(Status, &[u8], u8); 18] = [
         (Status::Yes, b"", 0),
         (Status::No, b"", 1),
+        (Status::Listed, b"", 0),
         (
             Status::Usage(UsageKind::Words),
             b"mask: usage: mask TASK ARG [options]",
@@ -238,6 +242,21 @@ mod tests {
         (
             Status::NotForGadget(NotFor::SeveralOutputs),
             b"mask: sni needs one output",
+            4,
+        ),
+        (
+            Status::NotForGadget(NotFor::ManyInputs),
+            b"mask: rpe needs at most two inputs",
+            4,
+        ),
+        (
+            Status::NotForGadget(NotFor::OrderTooLarge),
+            b"mask: order too large",
+            4,
+        ),
+        (
+            Status::NotForGadget(NotFor::ManyEvents(18446744073709551615)),
+            b"mask: too many events: 18446744073709551615",
             4,
         ),
         (
