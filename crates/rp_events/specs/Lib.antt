@@ -1,0 +1,6 @@
+pub mod Events
+pub mod Failing
+-- The theorem of `check` doesn't rest on what follows: proofs and the contracts of inner calls use it.
+pub mod Choices
+pub mod Questions
+pub mod Inside

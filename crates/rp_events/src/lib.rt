@@ -1,0 +1,26 @@
+//! Random probing: which tuples of leaking wires fail for an event.
+//!
+//! The events are after Belaid, Coron, Prouff, Rivain and Taleb, CRYPTO 2020. Which wires leak, which events are
+//! counted and how the simulator chooses are this project's own.
+#![tactic(auto)]
+
+mod asked;
+mod choices;
+mod event;
+mod exceeds;
+mod index_sets;
+mod laws;
+mod listing;
+mod names;
+mod output_sets;
+mod output_shares;
+mod query;
+mod refusals;
+mod rp;
+mod selections;
+
+pub use event::Event;
+pub use laws::failing_is_inherited_law;
+pub use listing::events;
+pub use query::EventQuery;
+pub use rp::{Rp, RpError};
