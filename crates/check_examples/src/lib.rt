@@ -8,6 +8,8 @@ mod forms;
 #[cfg(test)]
 mod four_notions;
 #[cfg(test)]
+mod leaking;
+#[cfg(test)]
 mod least_sets;
 #[cfg(test)]
 mod limits;

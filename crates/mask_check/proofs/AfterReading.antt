@@ -90,6 +90,7 @@ module _ {S K : Type 0} (words : List (List ℕ)) (run : Run S K) (bytes : List 
   Ends-declined s g statuses.OutOfMemory accepted h = memory
   Ends-declined s g statuses.Yes accepted h = absurd h
   Ends-declined s g statuses.No accepted h = absurd h
+  Ends-declined s g statuses.Listed accepted h = absurd h
   Ends-declined s g (statuses.Usage kind) accepted h = absurd h
   Ends-declined s g statuses.SizeNotUsed accepted h = absurd h
   Ends-declined s g (statuses.File error) accepted h = absurd h

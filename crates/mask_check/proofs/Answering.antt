@@ -1,6 +1,7 @@
--- From the answer of a query to the verdict and the report.
-use Rattle.std.proofs.Common.{◌≡◌, ℕ, ◌<◌, ◌⊎◌, Bool, true, false, List, [], ◌∷◌, ◌++◌, length, ap, ◌∙◌, sym, refl, inl, inr, subst, ◌↔◌, append-nil}
+-- From the answers of queries to how a check ends and its report.
+use Rattle.std.proofs.Common.{◌≡◌, ℕ, ◌<◌, ◌⊎◌, Bool, true, false, List, [], ◌∷◌, ◌++◌, length, map, ap, ◌∙◌, sym, refl, inl, inr, subst, ◌↔◌, append-nil, if◌then◌else◌}
 use Rattle.std.specs.Prelude.{IsTrue, Contains, All}
+use Rattle.std.specs.List.{AllZip}
 use Rattle.std.proofs.lemmas.Bool.{false≢true}
 use Rattle.std.proofs.lemmas.List.Elements.{All-weaker, All-contains_itself}
 use Rattle.list_laws.proofs.Members.{Contains-cons_head, Contains-cons_cases}
@@ -10,51 +11,29 @@ use Rattle.tuple_model.specs.Tuples.{IsTuple}
 use Rattle.tuple_model.specs.Minimal.{IsAnswer}
 use Rattle.tuple_model.proofs.Rising.{IsRising-member}
 use Rattle.tuple_model.proofs.Answers.{none_fails-from_empty, minimal-from_answer}
-use Rattle.wire_table.specs.Tables.{Table}
 use Rattle.wire_table.specs.Items.{Item}
-use Rattle.notions.specs.Questions.{NotionQuestion, FailsFor, items_asked}
+use Rattle.notions.specs.declared.notion.Notion.{Notion as NotionKind}
+use Rattle.rp_events.specs.declared.rp.Rp.{Rp}
+use Rattle.rp_events.specs.Events.{events_of}
 use Rattle.mask_words.specs.declared.answer.Settings.{Settings}
 use Rattle.report.specs.Report.{AreAmong, fail_lines, verdict}
-use Rattle.mask_check.specs.Questions.{Question, question, questions, items_in, notion_of, FailsIn, NoneFails}
-use Rattle.mask_check.specs.Report.{report, head_lines, are_empty}
-use Rattle.mask_check.specs.Ends.{Answers}
+use Rattle.report.specs.declared.status.Status.{Status}
+use Rattle.report.specs.declared.status.Status.TheVariants.{Yes, No, Listed}
+use Rattle.mask_check.specs.declared.asked.Asked.{Asked}
+use Rattle.mask_check.specs.declared.asked.Asked.TheVariants.{Notion, Leaking}
+use Rattle.mask_check.specs.Questions.{Question, breaks, asked_by, questions, questions_by, items, FailsIn, IsAnswerTo, NoneFails}
+use Rattle.mask_check.specs.Report.{head_lines, leak_lines, answer_lines, last_line, are_empty, ending}
+use Rattle.mask_check.specs.Decisions.{event_question}
+use Rattle.mask_check.specs.Ends.{Answers, IsTold}
 
 -- the items of the tuples of an answer are among those that it is of
-pub AreAmong-from_answer : (Fails : List ℕ → Type 0) (items : List Item) (size : ℕ) (answer : List (List ℕ)) →
-    IsAnswer Fails (length items) size answer → All (AreAmong items) answer
-AreAmong-from_answer Fails items size answer is =
-    All-weaker (Contains answer) (AreAmong items) (λ t among.
-    let tuple = (minimal-from_answer Fails (length items) size answer t is among).0 in
-    All-weaker (Contains t) (λ i. i < length items) (λ i k. (IsRising-member 0 (length items) t i tuple.rising k).1) t (All-contains_itself t))
+pub AreAmong-from_answer : (Fails : List ℕ → Type 0) (of_items : List Item) (size : ℕ) (answer : List (List ℕ)) →
+    IsAnswer Fails (length of_items) size answer → All (AreAmong of_items) answer
+AreAmong-from_answer Fails of_items size answer is =
+    All-weaker (Contains answer) (AreAmong of_items) (λ t among.
+    let tuple = (minimal-from_answer Fails (length of_items) size answer t is among).0 in
+    All-weaker (Contains t) (λ i. i < length of_items) (λ i k. (IsRising-member 0 (length of_items) t i tuple.rising k).1) t (All-contains_itself t))
     answer (All-contains_itself answer)
-
--- the answer to the query of a check is that to its question
-pub answer-from_query : (s : Settings) (g : Circuit) (table : Table) (q : NotionQuestion) (answer : List (List ℕ)) →
-    q ≡ record { notion = notion_of s.task; gadget = g; table = table; t = s.t } → s.size ≡ s.t →
-    IsAnswer (FailsFor q) (length (items_asked q)) q.t answer →
-    IsAnswer (FailsIn g (question s)) (length (items_in g (question s))) s.size answer
-answer-from_query s g table q answer made sized is =
-    subst (λ (size : ℕ). IsAnswer (FailsIn g (question s)) (length (items_in g (question s))) size answer) (sym sized)
-    (subst (λ (p : NotionQuestion). IsAnswer (FailsFor p) (length (items_asked p)) p.t answer) made is)
-
-empty_or_some : (xs : List (List ℕ)) → (xs ≡ []) ⊎ ((x : List ℕ) × Contains xs x)
-empty_or_some [] = inl refl
-empty_or_some (x ∷ xs) = inr (x, Contains-cons_head x xs)
-
--- where no tuple fails none is listed
-none_listed : (Failing : List ℕ → Type 0) (items size : ℕ) (answer : List (List ℕ)) → IsAnswer Failing items size answer →
-    ((t : List ℕ) → IsTuple items size t → Failing t → ⊥) → answer ≡ []
-none_listed Failing items size answer is h = elim (empty_or_some answer) [
-  | inl e ↦ e
-  | inr (x, among) ↦ let found = minimal-from_answer Failing items size answer x is among in absurd (h x found.0 found.1.fails)
-]
-
--- the verdict by whether the one answer is empty
-are_empty-one : (answer : List (List ℕ)) (secure : Bool) → IsTrue secure ↔ (answer ≡ []) → secure ≡ are_empty (answer ∷ [])
-are_empty-one [] true h = refl
-are_empty-one [] false h = absurd (false≢true (h.1 refl))
-are_empty-one (t ∷ ts) true h = let e = h.0 refl in absurd (cc)
-are_empty-one (t ∷ ts) false h = refl
 
 -- the lines that are added one after the other to an empty report
 pub added_lines : (new with_head with_fails whole head_ fails verdict_ head_is fails_are : List ℕ) → new ≡ [] → with_head ≡ new ++ head_ →
@@ -62,32 +41,87 @@ pub added_lines : (new with_head with_fails whole head_ fails verdict_ head_is f
 added_lines new with_head with_fails whole head_ fails verdict_ head_is fails_are e h f v i j =
     v ∙ ap (λ (xs : List ℕ). xs ++ verdict_) (f ∙ ap (λ (xs : List ℕ). xs ++ fails) (h ∙ ap (λ (xs : List ℕ). xs ++ head_) e ∙ i) ∙ ap (λ (xs : List ℕ). head_is ++ xs) j)
 
-module _ (s : Settings) (g : Circuit) (answer : List (List ℕ)) (is : IsAnswer (FailsIn g (question s)) (length (items_in g (question s))) s.size answer)
-    (secure : Bool) (empty : IsTrue secure ↔ (answer ≡ [])) where
-  -- no tuple of the one question fails exactly where none is listed
-  none : IsTrue secure ↔ NoneFails s g
-  none = (
-    (λ yes_ q among tuple fits fails.
-        let P : Question → Type 0 = λ p. IsTuple (length (items_in g p)) s.size tuple × FailsIn g p tuple in
-        elim (Contains-cons_cases (question s) [] q among) [
-          | inl e ↦
-              let both = subst P (sym e) (fits, fails) in
-              none_fails-from_empty (FailsIn g (question s)) (length (items_in g (question s))) s.size answer is (empty.0 yes_) tuple both.0 both.1
-          | inr nowhere ↦ absurd (Contains-nil q nowhere)
-        ]),
-    (λ none. empty.1 (none_listed (FailsIn g (question s)) (length (items_in g (question s))) s.size answer is
-        (none (question s) (Contains-cons_head (question s) [])))),
-  )
+empty_or_some : (xs : List (List ℕ)) → (xs ≡ []) ⊎ ((x : List ℕ) × Contains xs x)
+empty_or_some [] = inl refl
+empty_or_some (x ∷ xs) = inr (x, Contains-cons_head x xs)
+
+-- where no tuple fails none is listed
+none_listed : (Failing : List ℕ → Type 0) (count size : ℕ) (answer : List (List ℕ)) → IsAnswer Failing count size answer →
+    ((t : List ℕ) → IsTuple count size t → Failing t → ⊥) → answer ≡ []
+none_listed Failing count size answer is h = elim (empty_or_some answer) [
+  | inl e ↦ e
+  | inr (x, among) ↦ let found = minimal-from_answer Failing count size answer x is among in absurd (h x found.0 found.1.fails)
+]
+
+-- whether the one answer is empty
+are_empty-one : (answer : List (List ℕ)) (secure : Bool) → IsTrue secure ↔ (answer ≡ []) → secure ≡ are_empty (answer ∷ [])
+are_empty-one [] true h = refl
+are_empty-one [] false h = absurd (false≢true (h.1 refl))
+are_empty-one (t ∷ ts) true h = let e = h.0 refl in absurd (cc)
+are_empty-one (t ∷ ts) false h = refl
+
+-- what stands between the head and the end
+module _ (s : Settings) (g : Circuit) (asks : Asked) (are : asked_by s.task ≡ asks) where
+  of_questions : questions s g ≡ questions_by asks s g
+  of_questions = ap (λ (a : Asked). questions_by a s g) are
+
+  pub Answers-from : (answers : List (List (List ℕ))) (status : Status) (text : List ℕ) → AllZip (IsAnswerTo s g) (questions_by asks s g) answers →
+      text ≡ head_lines s g ++ leak_lines asks s g ++ answer_lines (items s g) (questions_by asks s g) answers ++ last_line asks answers →
+      status ≡ ending asks answers → IsTold s g status → Answers s g status text
+  Answers-from answers status text minimal written ended told = record {
+    answers = answers;
+    minimal = subst (λ (qs : List Question). AllZip (IsAnswerTo s g) qs answers) (sym of_questions) minimal;
+    reported = written
+        ∙ ap (λ (a : Asked). head_lines s g ++ leak_lines a s g ++ answer_lines (items s g) (questions_by a s g) answers ++ last_line a answers) (sym are);
+    ends = ended ∙ ap (λ (a : Asked). ending a answers) (sym are);
+    told = told;
+  }
+
+module _ (s : Settings) (g : Circuit) (n : NotionKind) (are : asked_by s.task ≡ Notion n) (answer : List (List ℕ))
+    (is : IsAnswerTo s g (breaks n s.t) answer) where
+  -- no tuple fails where none is listed, and the other way round
+  NoneFails-from_empty : answer ≡ [] → NoneFails s g
+  NoneFails-from_empty e q among tuple fits fails =
+      let here : Contains (breaks n s.t ∷ []) q = subst (λ (qs : List Question). Contains qs q) (of_questions s g (Notion n) are) among in
+      elim (Contains-cons_cases (breaks n s.t) [] q here) [
+        | inl same ↦
+            none_fails-from_empty (FailsIn g (breaks n s.t)) (length (items s g)) s.size answer is e tuple fits
+            (subst (λ (p : Question). FailsIn g p tuple) (sym same) fails)
+        | inr nowhere ↦ absurd (Contains-nil q nowhere)
+      ]
+
+  empty-from_NoneFails : NoneFails s g → answer ≡ []
+  empty-from_NoneFails none =
+      none_listed (FailsIn g (breaks n s.t)) (length (items s g)) s.size answer is
+      (none (breaks n s.t) (subst (λ (qs : List Question). Contains qs (breaks n s.t)) (sym (of_questions s g (Notion n) are)) (Contains-cons_head (breaks n s.t) [])))
+
+  -- the status of a verdict
+  abbrev status_by : Bool → Status
+  status_by secure = if secure then Yes else No
+
+  told : (secure : Bool) → IsTrue secure ↔ (answer ≡ []) → IsTold s g (status_by secure)
+  told true h = NoneFails-from_empty (h.0 refl)
+  told false h = λ none. false≢true (h.1 (empty-from_NoneFails none))
 
   -- the verdict and the report of the one answer
-  pub Answers-from_one : (text : List ℕ) →
-      text ≡ head_lines s g (questions s g) ++ fail_lines (items_in g (question s)) answer ++ verdict secure → Answers s g secure text
-  Answers-from_one text written = record {
-    answers = answer ∷ [];
-    minimal = (is, tt);
-    reported = written
-        ∙ ap (λ (lines : List ℕ). head_lines s g (questions s g) ++ lines ++ verdict secure) (sym (append-nil (fail_lines (items_in g (question s)) answer)))
-        ∙ ap (λ (yes_ : Bool). head_lines s g (questions s g) ++ (fail_lines (items_in g (question s)) answer ++ []) ++ verdict yes_) (are_empty-one answer secure empty);
-    listed = are_empty-one answer secure empty;
-    none_fails = none;
-  }
+  pub Answers-verdict : (secure : Bool) (status : Status) (text : List ℕ) → IsTrue secure ↔ (answer ≡ []) → status ≡ status_by secure →
+      text ≡ head_lines s g ++ fail_lines (items s g) answer ++ verdict secure → Answers s g status text
+  Answers-verdict secure status text empty ended written =
+      let one : secure ≡ are_empty (answer ∷ []) = are_empty-one answer secure empty in
+      Answers-from s g (Notion n) are (answer ∷ []) status text (is, tt)
+      (written
+      ∙ ap (λ (xs : List ℕ). xs ++ fail_lines (items s g) answer ++ verdict secure) (sym (append-nil (head_lines s g)))
+      ∙ ap (λ (xs : List ℕ). head_lines s g ++ [] ++ xs ++ verdict secure) (sym (append-nil (fail_lines (items s g) answer)))
+      ∙ ap (λ (yes_ : Bool). head_lines s g ++ [] ++ (fail_lines (items s g) answer ++ []) ++ verdict yes_) one)
+      (ended ∙ ap status_by one)
+      (subst (IsTold s g) (sym ended) (told secure empty))
+
+-- the list of random probing
+pub Answers-listed : (s : Settings) (g : Circuit) (kind : Rp) → asked_by s.task ≡ Leaking kind → (answers : List (List (List ℕ))) (text : List ℕ) →
+    AllZip (IsAnswerTo s g) (map (event_question s) (events_of kind g s.t)) answers →
+    text ≡ head_lines s g ++ leak_lines (Leaking kind) s g ++ answer_lines (items s g) (map (event_question s) (events_of kind g s.t)) answers →
+    Answers s g Listed text
+Answers-listed s g kind are answers text minimal written =
+    Answers-from s g (Leaking kind) are answers Listed text minimal
+    (written ∙ sym (append-nil (head_lines s g ++ leak_lines (Leaking kind) s g ++ answer_lines (items s g) (map (event_question s) (events_of kind g s.t)) answers)))
+    refl tt

@@ -1,5 +1,6 @@
 -- How a check ends: what each status says of the words, of what was read, and of what was written.
-use Rattle.std.specs.Prelude.{◌≡◌, ◌≢◌, ◌↔◌, ℕ, ◌+◌, ◌<◌, ◌≤◌, ◌⊎◌, Bool, true, false, List, length, drop, Option, Some, IfSome, IsTrue, Result, Ok, Err}
+use Rattle.std.specs.Prelude.{◌≡◌, ◌≢◌, ℕ, ◌+◌, ◌<◌, ◌≤◌, ◌⊎◌, List, length, drop, Option, Some, IfSome, Result, Ok, Err}
+use Rattle.std.specs.List.{AllZip}
 use Rattle.std.specs.Io.KnownBytes.{IsAtEnd, append_known}
 use Rattle.mask_bytes.specs.Counts.{Rose}
 use Rattle.mask_bytes.specs.Flow.{IsLonger, LosesCount, LosesAtMost, AppendsProperPrefix}
@@ -16,11 +17,10 @@ use Rattle.mask_words.specs.Settings.{settings_of}
 use Rattle.mask_words.specs.declared.answer.Settings.{Settings}
 use Rattle.mask_words.specs.declared.answer.WordsError.{WordsError}
 use Rattle.mask_words.specs.declared.answer.WordsError.TheVariants as refused
-use Rattle.report.specs.declared.status.NotFor.{NotFor}
 use Rattle.report.specs.declared.status.Status.{Status}
-use Rattle.report.specs.declared.status.Status.TheVariants.{Yes, No, Usage, SizeNotUsed, File, Wires, TooLong, NotForGadget, Budget, ReadFault, WriteFault, OutOfMemory}
-use Rattle.mask_check.specs.Questions.{questions, IsUnsuited, IsSuited, work, AreAnswers, NoneFails}
-use Rattle.mask_check.specs.Report.{report, are_empty}
+use Rattle.report.specs.declared.status.Status.TheVariants.{Yes, No, Listed, Usage, SizeNotUsed, File, Wires, TooLong, NotForGadget, Budget, ReadFault, WriteFault, OutOfMemory}
+use Rattle.mask_check.specs.Questions.{asked_by, questions, IsUnsuited, IsSuited, work, IsAnswerTo, NoneFails}
+use Rattle.mask_check.specs.Report.{report, ending}
 
 -- What the words of a command line ask for, the program's name skipped: settings, or the first thing that is wrong.
 abbrev pub words_ask : List (List ℕ) → Result Settings WordsError
@@ -69,13 +69,20 @@ pub record IsOverBudget (s : Settings) (gadget : Circuit) (count : ℕ) : Type 0
   pub counted : count ≡ work s gadget
   pub over : s.budget < count
 
--- The text is the report of exactly the minimal failing tuples of each question, and the verdict is that no tuple fails.
-pub record Answers (s : Settings) (gadget : Circuit) (secure : Bool) (text : List ℕ) : Type 0 where
+-- what the status of a finished check says of the tuples
+abbrev pub IsTold : Settings → Circuit → Status → Type 0
+IsTold s gadget Yes = NoneFails s gadget
+IsTold s gadget No = NoneFails s gadget → ⊥
+IsTold s gadget status = Unit {0}
+
+-- The text is the report of exactly the minimal failing tuples of each question; the verdict on a notion is yes where no
+-- tuple fails, and no where some does.
+pub record Answers (s : Settings) (gadget : Circuit) (status : Status) (text : List ℕ) : Type 0 where
   pub answers : List (List (List ℕ))
-  pub minimal : AreAnswers s gadget (questions s gadget) answers
+  pub minimal : AllZip (IsAnswerTo s gadget) (questions s gadget) answers
   pub reported : text ≡ report s gadget answers
-  pub listed : secure ≡ are_empty answers
-  pub none_fails : IsTrue secure ↔ NoneFails s gadget
+  pub ends : status ≡ ending (asked_by s.task) answers
+  pub told : IsTold s gadget status
 
 -- All that was left of the source was read, no more than a file may have; where the source tells, it is these bytes.
 pub record ReadsAll {S K : Type 0} (run : Run S K) (bytes : List ℕ) : Type 0 where
@@ -92,9 +99,9 @@ pub record Reads {S K : Type 0} (words : List (List ℕ)) (run : Run S K) (Holds
   pub accepted : IsAccepted words bytes settings gadget
   pub holds : Holds settings gadget
 
--- The check got as far as this verdict and this text: the check of the gadget can be done, and this is its answer.
-abbrev pub Reaches : {S K : Type 0} → List (List ℕ) → Run S K → Bool → List ℕ → Type 0
-Reaches words run secure text = Reads words run (λ s g. IsFeasible s g × Answers s g secure text)
+-- The check got as far as this status and this text: the check of the gadget can be done, and this is its answer.
+abbrev pub Reaches : {S K : Type 0} → List (List ℕ) → Run S K → Status → List ℕ → Type 0
+Reaches words run status text = Reads words run (λ s g. IsFeasible s g × Answers s g status text)
 
 -- the words ask for some check
 abbrev pub IsAsked : List (List ℕ) → Type 0
@@ -147,13 +154,13 @@ RefusesGadget run error =
 abbrev pub ReadsTooMuch : {S K : Type 0} → Run S K → Type 0
 ReadsTooMuch run = IsLonger (run.left run.source) most_file_bytes × Takes run (most_file_bytes + 1)
 
--- the check reached this verdict with a text, and wrote it
-abbrev pub Completes : {S K : Type 0} → List (List ℕ) → Run S K → Bool → Type 0
-Completes words run secure = (text : List ℕ) × Reaches words run secure text × Writes run text
+-- the check reached this status with a text, and wrote it
+abbrev pub Completes : {S K : Type 0} → List (List ℕ) → Run S K → Status → Type 0
+Completes words run status = (text : List ℕ) × Reaches words run status text × Writes run text
 
--- the check reached some verdict with a text, and wrote a prefix of it
+-- the check reached some status with a text, and wrote a prefix of it
 abbrev pub BreaksOff : {S K : Type 0} → List (List ℕ) → Run S K → Type 0
-BreaksOff words run = (secure : Bool) × (text : List ℕ) × Reaches words run secure text × WritesPrefix run text
+BreaksOff words run = (status : Status) × (text : List ℕ) × Reaches words run status text × WritesPrefix run text
 
 -- The words are refused for this, the first thing that is wrong with them, before anything is read.
 abbrev pub RefusesWords : {S K : Type 0} → List (List ℕ) → Run S K → WordsError → Type 0
@@ -161,8 +168,9 @@ RefusesWords words run error = (words_ask words ≡ Err error) × ReadsNothing r
 
 -- How a check ends: a line for each status, in the order of docs/REPORT.md.
 abbrev pub Ends : {S K : Type 0} → List (List ℕ) → Run S K → Status → Type 0
-Ends words run Yes = Completes words run true
-Ends words run No = Completes words run false
+Ends words run Yes = Completes words run Yes
+Ends words run No = Completes words run No
+Ends words run Listed = Completes words run Listed
 Ends words run (Usage kind) = RefusesWords words run (refused.Usage kind) × WritesNothing run
 Ends words run SizeNotUsed = RefusesWords words run refused.SizeNotUsed × WritesNothing run
 Ends words run (File error) = IsAsked words × RefusesFile run error × WritesNothing run
@@ -188,6 +196,6 @@ pub record IsValid {S K : Type 0} (words : List (List ℕ)) (run : Run S K) : Ty
   pub reads : CountsReadFault run → ⊥
   pub writes : CountsWriteFault run → ⊥
 
--- a verdict, unless memory ran out
-abbrev pub IsVerdictIfMemoryLasts : Status → Type 0
-IsVerdictIfMemoryLasts status = (status ≡ Yes) ⊎ (status ≡ No) ⊎ (status ≡ OutOfMemory)
+-- a report was written, unless memory ran out
+abbrev pub IsDoneIfMemoryLasts : Status → Type 0
+IsDoneIfMemoryLasts status = (status ≡ Yes) ⊎ (status ≡ No) ⊎ (status ≡ Listed) ⊎ (status ≡ OutOfMemory)

@@ -2,6 +2,9 @@
 #![tactic(auto)]
 
 mod answer;
+mod asked;
+mod leaking_answer;
+mod notion_answer;
 mod refusals;
 mod run;
 

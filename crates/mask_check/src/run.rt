@@ -4,7 +4,7 @@ ghost use Rattle.std.specs.Prelude.{◌≡◌, ◌≢◌, ◌⊎◌, ◌≤◌, 
 ghost use Rattle.tuple_model.specs.Limits.{most_size};
 ghost use Rattle.mask_bytes.specs.Counts.{Rose};
 ghost use Rattle.mask_check.specs.Causes.{status_of_words};
-ghost use Rattle.mask_check.specs.Ends.{run_of, words_ask, Completes, Ends, IsValid, IsVerdictIfMemoryLasts};
+ghost use Rattle.mask_check.specs.Ends.{run_of, words_ask, Completes, Ends, IsValid, IsDoneIfMemoryLasts};
 
 use crate::answer::decide;
 use crate::refusals::refused_words;
@@ -31,29 +31,28 @@ pub fn check<S: Source, K: Sink>(
     ensures words { (error : _) → words_ask (map string_bytes words.now) ≡ Err error →
         (result ≡ status_of_words error) ⊎ (result ≡ Status.OutOfMemory) }
 
-    // Every other answer met no fault, a verdict above all.
+    // Every other answer met no fault, a report above all.
     ensures read_faultless { result ≢ Status.ReadFault → S.faults source.new ≡ S.faults source.old }
     ensures write_faultless { result ≢ Status.WriteFault → K.faults sink.new ≡ K.faults sink.old }
 
     // A valid check completes, unless memory fails.
     ensures complete { IsValid (map string_bytes words.now)
         (run_of S.left S.faults K.written K.faults source.old source.new sink.old sink.new)
-        → IsVerdictIfMemoryLasts result }
+        → IsDoneIfMemoryLasts result }
 {
-    match verdict(alloc, words, source, sink) {
-        Ok(true) => Status::Yes,
-        Ok(false) => Status::No,
+    match finish(alloc, words, source, sink) {
+        Ok(status) => status,
         Err(refusal) => refusal,
     }
 }
 
-// The verdict once the report is written, or the refusal.
-fn verdict<S: Source, K: Sink>(
+// How the check ends once the report is written, or the refusal.
+fn finish<S: Source, K: Sink>(
     alloc: Global,
     words: &[String],
     source: &mut S,
     sink: &mut K,
-) -> Result<bool, Status>
+) -> Result<Status, Status>
     ensures ends { let run = run_of S.left S.faults K.written K.faults source.old source.new sink.old sink.new in
         MatchResult result (Completes (map string_bytes words.now) run) (Ends (map string_bytes words.now) run) }
     ensures read_faultless { result ≢ Err Status.ReadFault → S.faults source.new ≡ S.faults source.old }
@@ -65,7 +64,7 @@ fn verdict<S: Source, K: Sink>(
     let table = WireTable::make(alloc, &gadget)?;
     let answer = decide(alloc, &gadget, &table, &settings)?;
     write_whole(sink, answer.report.bytes())?;
-    Ok(answer.secure)
+    Ok(answer.status)
 }
 
 /// A source that counts no fault, as one that can't fail, meets by itself what a complete check asks of reading.

@@ -2,7 +2,7 @@ use Rattle.std.proofs.Common.{rules, refl, map, string_bytes}
 use Rattle.std.proofs.lemmas.Result.{err_from_is_err_and}
 use Rattle.mask_check.specs.Ends.{run_of}
 use Rattle.mask_check.proofs.AfterReading.{Ends-declined, Ends-file, Ends-table}
-use Rattle.mask_check.proofs.run.verdict.Goals as goal
+use Rattle.mask_check.proofs.run.finish.Goals as goal
 
 pub returns-in_err-write_whole-clause-ends : goal.returns-in_err-write_whole-clause-ends
 returns-in_err-write_whole-clause-ends g c =
@@ -10,7 +10,7 @@ returns-in_err-write_whole-clause-ends g c =
     rw (p.1, p.2) (
       c.in_err-write_whole.ensures.fault,
       (
-        c.in_ok-answer.answer.secure,
+        c.in_ok-answer.answer.status,
         c.bytes.result.now,
         record {
           bytes = c.in_ok-bytes.bytes.items;
