@@ -4,8 +4,8 @@ use crate::fixture::{REFRESH, check_as};
 use mask_check::{NotFor, Status};
 use std::test::Fail;
 
-// Of the wires `a0`, `a1` and the three of `r0`, both shares reveal the secret, and so do a share and the random bit that
-// hides it in the given share of the output.
+// Of the wires `a0`, `a1` and the three of `r0`, both shares reveal the secret, and so do a share and the random bit
+// that hides it in the given share of the output.
 const LISTED: &str =
     "check rpc 1\ngadget shares 2 inputs 1 outputs 1 randoms 1 variables 5\nspace items 3 size 2 tuples 7\nwires copies 5\nevent rpc d0\nfail 2 a0 a1\nfail 2 a1 r0\nevent rpc d1\nfail 2 a0 a1\nfail 2 a0 r0\n";
 

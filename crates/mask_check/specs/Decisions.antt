@@ -40,7 +40,8 @@ Declines s g status = ⊥
 
 -- A notion is asked for, these are the check's items, so many tuples of them are asked about, and these are the minimal
 -- ones that fail.
-pub record IsNotionAnswer (s : Settings) (g : Circuit) (of_items : List Item) (count : ℕ) (failing : List (List ℕ)) : Type 0 where
+pub record IsNotionAnswer
+    (s : Settings) (g : Circuit) (of_items : List Item) (count : ℕ) (failing : List (List ℕ)) : Type 0 where
   pub notion : NotionKind
   pub asks : asked_by s.task ≡ Notion notion
   pub items_are : of_items ≡ items s g

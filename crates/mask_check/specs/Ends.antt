@@ -75,8 +75,8 @@ IsTold s gadget Yes = NoneFails s gadget
 IsTold s gadget No = NoneFails s gadget → ⊥
 IsTold s gadget status = Unit {0}
 
--- The text is the report of exactly the minimal failing tuples of each question; the verdict on a notion is yes where no
--- tuple fails, and no where some does.
+-- The text is the report of exactly the minimal failing tuples of each question; the verdict on a notion is yes where
+-- no tuple fails, and no where some does.
 pub record Answers (s : Settings) (gadget : Circuit) (status : Status) (text : List ℕ) : Type 0 where
   pub answers : List (List (List ℕ))
   pub minimal : AllZip (IsAnswerTo s gadget) (questions s gadget) answers
@@ -91,7 +91,8 @@ pub record ReadsAll {S K : Type 0} (run : Run S K) (bytes : List ℕ) : Type 0 w
   pub few : length bytes ≤ most_file_bytes
 
 -- A file was read and is accepted, and its gadget is one of which this holds.
-pub record Reads {S K : Type 0} (words : List (List ℕ)) (run : Run S K) (Holds : Settings → Circuit → Type 0) : Type 0 where
+pub record Reads
+    {S K : Type 0} (words : List (List ℕ)) (run : Run S K) (Holds : Settings → Circuit → Type 0) : Type 0 where
   pub bytes : List ℕ
   pub settings : Settings
   pub gadget : Circuit
@@ -183,8 +184,8 @@ Ends words run WriteFault = CountsWriteFault run × BreaksOff words run
 Ends words run OutOfMemory =
     (ReadsNothing run ⊎ (IsAsked words × TakesAtMost run (most_file_bytes + 1))) × WritesNothing run
 
--- A valid check: the source tells the bytes of a file that is accepted, the check of its gadget can be done, and neither
--- a read nor a write fails.
+-- A valid check: the source tells the bytes of a file that is accepted, the check of its gadget can be done, and
+-- neither a read nor a write fails.
 pub record IsValid {S K : Type 0} (words : List (List ℕ)) (run : Run S K) : Type 0 where
   pub bytes : List ℕ
   pub settings : Settings

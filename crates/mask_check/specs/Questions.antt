@@ -31,8 +31,8 @@ asked_by task.Pini = Notion notion.Pini
 asked_by task.Rpc = Leaking rp.Rpc
 asked_by task.Rpe = Leaking rp.Rpe
 
--- A question: which tuples fail. Which break a notion of an order; or which tuples of leaking wires fail for an event of
--- an order.
+-- A question: which tuples fail. Which break a notion of an order; or which tuples of leaking wires fail for an event
+-- of an order.
 pub data Question : Type 0 where
   breaks : NotionKind → ℕ → Question
   fails_for : Event → ℕ → Wires → Question

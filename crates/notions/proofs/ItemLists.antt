@@ -1,5 +1,5 @@
 -- The items of a notion are few, and each fits what the test works in.
-use Rattle.std.proofs.Common.{◌≡◌, ◌≢◌, ◌⊎◌, ◌+◌, ◌*◌, ◌<◌, ◌≤◌, ℕ, Bool, true, List, [], ◌++◌, map, length, get_or, refl, ap, sym, ◌∙◌, subst, inl, inr, arith, Contains, Option, Some, None, length-append}
+use Rattle.std.proofs.Common.{◌≡◌, ◌≢◌, ◌+◌, ◌*◌, ◌<◌, ◌≤◌, ℕ, Bool, true, false, if◌then◌else◌, List, [], ◌++◌, map, length, get_or, refl, ap, sym, ◌∙◌, subst, inl, inr, arith, Contains, Option, Some, None, length-append}
 use Rattle.std.specs.Prelude.{is_none}
 use Rattle.std.specs.List.{All, range_with_len}
 use Rattle.std.proofs.Math.ListN.{length-map}
@@ -15,9 +15,8 @@ use Rattle.tuple_model.specs.Limits.{most_items}
 use Rattle.wire_table.specs.Items.{Item, HasFewVariables, HasVariablesBelow, numbers, output_index, kind_of}
 use Rattle.wire_table.proofs.Pigeonhole.{length-le}
 use Rattle.notions.specs.declared.notion.Notion.{Notion}
-use Rattle.notions.specs.declared.notion.Notion.TheVariants.{Ni, Tni, Sni, Pini}
 use Rattle.notions.specs.Inside.{HasSmallIndex, IsSmallKind}
-use Rattle.notions.specs.Items.{items_of, variable_item, column_item, inner_numbers}
+use Rattle.notions.specs.Items.{items_of, has_columns, items_with_columns, variable_item, column_item, inner_numbers}
 use Rattle.wire_table.proofs.Ranges.{All-range, Contains-range, lt-from_range, Once-range, passes-from_filter}
 use Rattle.wire_table.proofs.OutputPlaces.{not_output-from_None, index-lt, place-lt}
 
@@ -64,18 +63,22 @@ module _ (g : Circuit) (is : IsGadget g) where
       All-map (Fits (length g.variables)) (variable_item g) (numbers g)
       (All-range (length g.variables) (λ v. Fits (length g.variables) (variable_item g v)) Fits-variable)
 
-  Fits-items : (notion : Notion) → All (Fits (length g.variables)) (items_of notion g)
-  unfolding items_of
-  Fits-items Ni = Fits-variables
-  Fits-items Tni = Fits-variables
-  Fits-items Sni = Fits-variables
-  Fits-items Pini =
+  Fits-with_columns : All (Fits (length g.variables)) (items_with_columns g)
+  Fits-with_columns =
       let P : ℕ → Type 0 = λ v. Fits (length g.variables) (variable_item g v) in
       All-append (Fits (length g.variables)) (map (variable_item g) (inner_numbers g)) (map (column_item g) (range_with_len 0 g.shares))
       (All-map (Fits (length g.variables)) (variable_item g) (inner_numbers g)
       (All-filter (λ v. is_none (output_index g v)) P (numbers g) (All-range (length g.variables) P Fits-variable)))
       (All-map (Fits (length g.variables)) (column_item g) (range_with_len 0 g.shares)
       (All-range g.shares (λ index. Fits (length g.variables) (column_item g index)) Fits-column))
+
+  Fits-by : (columns : Bool) → All (Fits (length g.variables)) (if columns then items_with_columns g else map (variable_item g) (numbers g))
+  Fits-by true = Fits-with_columns
+  Fits-by false = Fits-variables
+
+  Fits-items : (notion : Notion) → All (Fits (length g.variables)) (items_of notion g)
+  unfolding items_of
+  Fits-items notion = Fits-by (has_columns notion)
 
   pub few_variables : (notion : Notion) → All HasFewVariables (items_of notion g)
   few_variables notion = All-weaker (Fits (length g.variables)) HasFewVariables (λ item f. f.few) (items_of notion g) (Fits-items notion)
@@ -114,12 +117,8 @@ module _ (g : Circuit) (is : IsGadget g) where
       let c = is.few_variables in
       omega arith
 
-  pub few_items : (notion : Notion) → length (items_of notion g) ≤ most_items
-  unfolding items_of
-  few_items Ni = few_all
-  few_items Tni = few_all
-  few_items Sni = few_all
-  few_items Pini =
+  few_with_columns : length (items_with_columns g) ≤ most_items
+  few_with_columns =
       let a = length-append (map (variable_item g) (inner_numbers g)) (map (column_item g) (range_with_len 0 g.shares)) in
       let b = length-map (inner_numbers g) (variable_item g) in
       let c = length-map (range_with_len 0 g.shares) (column_item g) in
@@ -132,15 +131,23 @@ module _ (g : Circuit) (is : IsGadget g) where
       let o = mul_comm g.shares (length g.outputs) in
       omega arith
 
+  few_by : (columns : Bool) → length (if columns then items_with_columns g else map (variable_item g) (numbers g)) ≤ most_items
+  few_by true = few_with_columns
+  few_by false = few_all
+
+  pub few_items : (notion : Notion) → length (items_of notion g) ≤ most_items
+  unfolding items_of
+  few_items notion = few_by (has_columns notion)
+
 -- what the two kinds of lists are
-pub items_of-inner : (notion : Notion) (g : Circuit) (items : List Item) → notion ≡ Pini →
+pub items_of-with_columns : (notion : Notion) (g : Circuit) (items : List Item) → has_columns notion ≡ true →
     items ≡ ([] ++ map (variable_item g) (inner_numbers g)) ++ map (column_item g) (range_with_len 0 g.shares) → items ≡ items_of notion g
 unfolding items_of
-items_of-inner notion g items is e = e ∙ ap (λ (n : Notion). items_of n g) (sym is)
+items_of-with_columns notion g items is e =
+    e ∙ ap (λ (columns : Bool). if columns then items_with_columns g else map (variable_item g) (numbers g)) (sym is)
 
-pub items_of-all : (notion : Notion) (g : Circuit) (items : List Item) → (notion ≡ Ni) ⊎ ((notion ≡ Tni) ⊎ (notion ≡ Sni)) →
+pub items_of-all : (notion : Notion) (g : Circuit) (items : List Item) → has_columns notion ≡ false →
     items ≡ [] ++ map (variable_item g) (numbers g) → items ≡ items_of notion g
 unfolding items_of
-items_of-all notion g items (inl is) e = e ∙ ap (λ (n : Notion). items_of n g) (sym is)
-items_of-all notion g items (inr (inl is)) e = e ∙ ap (λ (n : Notion). items_of n g) (sym is)
-items_of-all notion g items (inr (inr is)) e = e ∙ ap (λ (n : Notion). items_of n g) (sym is)
+items_of-all notion g items is e =
+    e ∙ ap (λ (columns : Bool). if columns then items_with_columns g else map (variable_item g) (numbers g)) (sym is)

@@ -22,12 +22,11 @@ pub(crate) fn items_of(
     ensures { IfOk result (λ items. map item_of items.items ≡ items_of notion gadget.now) }
 {
     let mut items = Vec::new(alloc);
-    match notion {
-        Notion::Ni | Notion::Tni | Notion::Sni => extend_variables(alloc, gadget, &mut items)?,
-        Notion::Pini => {
-            extend_inner(alloc, gadget, &mut items)?;
-            extend_columns(alloc, gadget, &mut items)?;
-        }
+    if notion.has_columns() {
+        extend_inner(alloc, gadget, &mut items)?;
+        extend_columns(alloc, gadget, &mut items)?;
+    } else {
+        extend_variables(alloc, gadget, &mut items)?;
     }
     Ok(items)
 }

@@ -1,5 +1,8 @@
 //! The notions.
 
+ghost use Rattle.std.specs.Prelude.{◌≡◌};
+ghost use Rattle.notions.specs.Items.{has_columns};
+
 use mask_bytes::OutOfMemory;
 
 /// What a designer asks of the sets of at most `t` probes on a gadget.
@@ -17,6 +20,15 @@ pub enum Notion {
     Pini,
 }
 
+impl Notion {
+    /// Whether it asks of columns, the shares with one index of all outputs, in place of the shares of outputs.
+    pub(crate) fn has_columns(self) -> bool
+        ensures { result ≡ has_columns self }
+    {
+        matches!(self, Notion::Pini)
+    }
+}
+
 /// Why there is no query.
 #[derive(Clone, Copy, Debug, PartialEq, Eq, Drop)]
 pub enum NotionError {
@@ -26,7 +38,6 @@ pub enum NotionError {
 }
 
 impl From<OutOfMemory> for NotionError {
-    ghost use Rattle.std.specs.Prelude.{◌≡◌};
     ghost use Rattle.notions.specs.declared.notion.NotionError.TheVariants as error;
 
     ghost from_gives = { λ _ e. e ≡ error.OutOfMemory };

@@ -1,6 +1,6 @@
 -- The events of random probing: what of the outputs has to be simulated beside the leaking wires, and from which input
--- shares it may not be (after Belaid, Coron, Prouff, Rivain and Taleb, CRYPTO 2020; the events that are counted, and how
--- the simulator chooses, are this project's own).
+-- shares it may not be (after Belaid, Coron, Prouff, Rivain and Taleb, CRYPTO 2020; the events that are counted, and
+-- how the simulator chooses, are this project's own).
 use Rattle.std.specs.Prelude.{◌≡◌, ◌≢◌, ℕ, ◌+◌, ◌*◌, ◌-◌, ◌^◌, ◌==◌, Bool, false, List, [], ◌∷◌, ◌++◌, length, map, flat_map, codes, if◌then◌else◌, nat_lt, nat_le, slice_index_or, replicate, Option, Some, None, Result, Ok, Err}
 use Rattle.std.specs.List.{sum}
 use Rattle.gadget_model.specs.Circuit.{Circuit}
@@ -14,8 +14,8 @@ use Rattle.rp_events.specs.declared.rp.RpError.{RpError}
 use Rattle.rp_events.specs.declared.rp.RpError.TheVariants.{ManyInputs, OrderTooLarge, ManyEvents, OutOfMemory}
 use Rattle.rp_events.specs.declared.event.Event as code
 
--- An event: its name in reports; the sets of output shares of which one has to be simulated beside the leaking wires, each
--- with bit 16 * output + index for a share; and of which inputs too many shares may not be needed.
+-- An event: its name in reports; the sets of output shares of which one has to be simulated beside the leaking wires,
+-- each with bit 16 * output + index for a share; and of which inputs too many shares may not be needed.
 pub record Event : Type 0 where
   pub name : List ℕ
   pub sets : List ℕ
@@ -47,9 +47,11 @@ selections (xs ∷ rest) = flat_map (λ x. map (λ others. x ∷ others) (select
 -- the number of a set of output shares, given by the indices of each output's, from this output on
 abbrev pub set_from : ℕ → List (List ℕ) → ℕ
 set_from output [] = 0
-set_from output (indices ∷ others) = sum (map (λ index. 2 ^ (16 * output + index)) indices) + set_from (output + 1) others
+set_from output (indices ∷ others) =
+    sum (map (λ index. 2 ^ (16 * output + index)) indices) + set_from (output + 1) others
 
--- the sets of an event that gives this of each output, by the shares of the first output and then by those of the second
+-- the sets of an event that gives this of each output, by the shares of the first output and then by those of the
+-- second
 abbrev pub sets_of : ℕ → List Given → List ℕ
 sets_of n given = map (set_from 0) (selections (map (chosen n) given))
 
@@ -60,7 +62,8 @@ indices_given all_but_one = []
 
 -- the name of a share of an output, after a space
 abbrev pub share_word : Circuit → ℕ → ℕ → List ℕ
-share_word g output index = codes " " ++ name_at g.variables (slice_index_or g.output_shares (g.shares * output + index) 0)
+share_word g output index =
+    codes " " ++ name_at g.variables (slice_index_or g.output_shares (g.shares * output + index) 0)
 
 -- the names of the given shares, from this output on
 abbrev pub given_words : Circuit → ℕ → List Given → List ℕ
@@ -102,8 +105,8 @@ mode_choices g t = exact_choices g t ∷ (all_but_one ∷ []) ∷ []
 abbrev pub whiches : Circuit → List Which
 whiches g = if length g.inputs == 1 then Input 0 ∷ [] else Input 0 ∷ Input 1 ∷ Both ∷ []
 
--- The events of a task at order t, in order: of composability one for each choice of exactly t shares of each output; of
--- expandability by the modes of the outputs, then by the given shares, then by the inputs.
+-- The events of a task at order t, in order: of composability one for each choice of exactly t shares of each output;
+-- of expandability by the modes of the outputs, then by the given shares, then by the inputs.
 unfoldable pub events_of : Rp → Circuit → ℕ → List Event
 events_of Rpc g t =
     map (λ given. event_with g Rpc given Any) (selections (replicate (length g.outputs) (exact_choices g t)))

@@ -1,24 +1,24 @@
-use Rattle.std.proofs.Common.{◌++◌, List, map, ap, ◌∙◌}
+use Rattle.std.proofs.Common.{◌++◌, List, map, ap, sym, ◌∙◌}
 use Rattle.std.specs.List.{range_with_len}
 use Rattle.wire_table.specs.Items.{Item, item_of, numbers}
 use Rattle.notions.specs.Items.{variable_item, column_item, inner_numbers}
-use Rattle.notions.proofs.ItemLists.{items_of-inner, items_of-all}
+use Rattle.notions.proofs.ItemLists.{items_of-with_columns, items_of-all}
 use Rattle.notions.proofs.items.items_of.Goals as goal
-use Rattle.notions.proofs.items.items_of.Goals.{in-Ni+in_ok-extend_variables-in-Ni, in-Pini+in_ok-extend_inner-in-Pini+in_ok-extend_columns-in-Pini}
+use Rattle.notions.proofs.items.items_of.Goals.{then-has_columns+in_ok-extend_inner+in_ok-extend_columns, else-has_columns+in_ok-extend_variables}
 
 pub returns : goal.returns
 returns c =
     let g = c.args.gadget.now in
     let none = ap (map item_of) c.new-items.ensures.items in
-    elim c.match-notion.branch [
-      | in-Ni+in_ok-extend_variables-in-Ni w ↦
+    elim c.if-has_columns.branch [
+      | then-has_columns+in_ok-extend_inner+in_ok-extend_columns w ↦
           rw (w.items-is)
-          (items_of-all c.args.notion g (map item_of w.extend_variables.new.items.items) w.in-Ni.is
-          (w.in_ok-extend_variables-in-Ni.ensures ∙ ap (λ (items : List Item). items ++ map (variable_item g) (numbers g)) none))
-      | in-Pini+in_ok-extend_inner-in-Pini+in_ok-extend_columns-in-Pini w ↦
-          rw (w.items-is)
-          (items_of-inner c.args.notion g (map item_of w.extend_columns.new.items.items) w.in-Pini.is
-          (w.in_ok-extend_columns-in-Pini.ensures
+          (items_of-with_columns c.args.notion g (map item_of w.extend_columns.new.items.items) (sym c.has_columns.ensures ∙ w.if-has_columns.true)
+          (w.in_ok-extend_columns.ensures
           ∙ ap (λ (items : List Item). items ++ map (column_item g) (range_with_len 0 g.shares))
-          (w.in_ok-extend_inner-in-Pini.ensures ∙ ap (λ (items : List Item). items ++ map (variable_item g) (inner_numbers g)) none)))
+          (w.in_ok-extend_inner.ensures ∙ ap (λ (items : List Item). items ++ map (variable_item g) (inner_numbers g)) none)))
+      | else-has_columns+in_ok-extend_variables w ↦
+          rw (w.items-is)
+          (items_of-all c.args.notion g (map item_of w.extend_variables.new.items.items) (sym c.has_columns.ensures ∙ w.if-has_columns.false)
+          (w.in_ok-extend_variables.ensures ∙ ap (λ (items : List Item). items ++ map (variable_item g) (numbers g)) none))
     ]
