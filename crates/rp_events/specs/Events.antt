@@ -6,6 +6,7 @@ use Rattle.std.specs.List.{sum}
 use Rattle.gadget_model.specs.Circuit.{Circuit}
 use Rattle.gadget_tree.specs.Variables.{name_at}
 use Rattle.tuple_model.specs.Tuples.{rising}
+use Rattle.wire_table.specs.Whiches.{which_word}
 use Rattle.wire_table.specs.declared.which.Which.{Which}
 use Rattle.wire_table.specs.declared.which.Which.TheVariants.{Any, Input, Both}
 use Rattle.rp_events.specs.declared.rp.Rp.{Rp}
@@ -75,11 +76,6 @@ given_words g output (given ∷ others) =
 abbrev pub mode_digit : Given → List ℕ
 mode_digit (exactly indices) = codes "1"
 mode_digit all_but_one = codes "2"
-
-abbrev pub which_word : Which → List ℕ
-which_word Any = codes "any"
-which_word (Input k) = if k == 0 then codes "in0" else codes "in1"
-which_word Both = codes "both"
 
 -- the first word of an event's name
 abbrev pub event_word : Rp → List Given → Which → List ℕ

@@ -3,7 +3,7 @@
 ghost use Rattle.std.specs.Prelude.{◌≡◌, ◌++◌, ◌+◌, ◌*◌, ◌<◌, ◌≤◌, IfOk, OnOk};
 ghost use Rattle.std.specs.Prelude.{All, flat_map, length, map, slice_index_or};
 ghost use Rattle.gadget_tree.specs.Variables.{name_at};
-ghost use Rattle.rp_events.specs.Events.{event_word, given_words, mode_digit, share_word, which_word};
+ghost use Rattle.rp_events.specs.Events.{event_word, given_words, mode_digit, share_word};
 ghost use Rattle.rp_events.specs.Choices.{IsChoice, given_of};
 
 use crate::choices::Choice;
@@ -49,7 +49,7 @@ fn extend_event_word(
             name.extend_from_slice(b"rpe")?;
             extend_digits(name, given)?;
             name.push(b'.')?;
-            name.extend_from_slice(which_word(which))?;
+            name.extend_from_slice(which.word().as_bytes())?;
         }
     }
     Ok(())
@@ -64,18 +64,6 @@ fn extend_digits(name: &mut Vec<u8>, given: &[Choice<'_>]) -> Result<(), OutOfMe
         name.push(choice.digit())?;
     }
     Ok(())
-}
-
-// The word for the inputs over which an event asks.
-fn which_word(which: Which) -> &'static [u8]
-    ensures { result.now ≡ which_word which }
-{
-    match which {
-        Which::Any => b"any",
-        Which::Input(0) => b"in0",
-        Which::Input(_) => b"in1",
-        Which::Both => b"both",
-    }
 }
 
 // Adds the names of the shares of an output with these indices, each after a space.

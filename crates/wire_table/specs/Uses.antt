@@ -18,9 +18,10 @@ operands (product_of a b) = a ∷ b ∷ []
 unfoldable pub uses_of : Circuit → ℕ → ℕ
 uses_of g v = count_by (λ a. a == v) (flat_map operands (nodes g))
 
--- For how many wires a variable stands that is used so often. Plain: one, but an output share that nothing uses is none.
--- Copies: a value that is used k times is copied k - 1 times, which makes 2 k - 1 wires; the output itself is one more
--- use of an output share, whose last wire is not counted. (This is the project's own: no wire of another tool is meant.)
+-- For how many wires a variable stands that is used so often. Plain: one, but an output share that nothing uses is
+-- none. Copies: a value that is used k times is copied k - 1 times, which makes 2 k - 1 wires; the output itself is one
+-- more use of an output share, whose last wire is not counted. (This is the project's own: no wire of another tool is
+-- meant.)
 abbrev pub wire_count : Wires → Option ℕ → ℕ → ℕ
 wire_count Plain None uses = 1
 wire_count Plain (Some index) uses = if uses == 0 then 0 else 1
