@@ -1,5 +1,6 @@
 -- The first subset of a tuple in a list is that with the least of the codes of all subsets that the list has.
-use Rattle.std.proofs.Common.{◌≡◌, ℕ, ◌^◌, ◌<◌, ◌≤◌, List, map, length, length-take-le, take, get_or, Some, None, ap, sym, ◌∙◌, inl, inr, arith, subst, Contains}
+use Rattle.std.proofs.Common.{◌≡◌, ◌↔◌, ℕ, suc, ◌/◌, ◌%◌, ◌^◌, ◌<◌, ◌≤◌, Bool, true, false, IsTrue, List, map, length, length-take-le, take, get_or, Some, None, IfSome, IfNone, refl, ap, sym, ◌∙◌, inl, inr, arith, subst, Contains}
+use Rattle.std.specs.Bool.{then_some}
 use Rattle.std.proofs.lemmas.Bool.{cases_lt}
 use Rattle.std.proofs.lemmas.List.{get_or_default, get_or-take}
 use Rattle.std.proofs.lemmas.List.Elements.{All-contains}
@@ -7,12 +8,13 @@ use Rattle.list_laws.proofs.Members.{Contains-map}
 use Rattle.tuple_model.specs.Limits.{most_items, most_size}
 use Rattle.tuple_model.specs.Tuples.{IsTuple, IsSubset, subset}
 use Rattle.tuple_model.specs.Antichains.{Covers}
-use Rattle.tuple_model.proofs.Subsets.{IsTuple-subset, member-from_subset, subset-from_members}
-use Rattle.tuple_order.specs.Codes.{code_of, tuple_of_code}
-use Rattle.tuple_order.proofs.Codes.{tuple_of_code-code_of, IsBefore-from_code_of}
+use Rattle.tuple_model.proofs.Subsets.{IsTuple-subset, member-from_subset, subset-from_members, subset-proper}
+use Rattle.tuple_model.proofs.Antichains.{proper_or_equal}
+use Rattle.tuple_order.specs.Codes.{code_of, tuple_of_code, size_of_code}
+use Rattle.tuple_order.proofs.Codes.{tuple_of_code-code_of, IsBefore-from_code_of, code_of-size, code_of-small, code_of-large}
 use Rattle.antichain_list.specs.Held.{IsCode, AreCodes, IsLeastOfBoth}
 use Rattle.antichain_list.specs.Lists.{IsFirstSubset}
-use Rattle.antichain_list.proofs.Coded.{code-from_member}
+use Rattle.antichain_list.proofs.Coded.{code-from_member, member-from_code, IsNonDecreasing-from_codes}
 
 -- the codes of all subsets, each at its number
 pub record AreSubsetCodes (t codes : List ℕ) : Type 0 where
@@ -65,3 +67,44 @@ module _ (codes t all : List ℕ) (held : AreCodes codes) (fits : IsTuple most_i
   uncovered-from_none h c =
       let g = member_tuple c.0 c.1 in
       h (code_of c.0) (code-from_member codes c.0 held.coded c.1) (subset_there c.0 g c.2)
+
+-- Of a tuple that isn't larger than the first of the list, no proper subset is there.
+module _ (codes t : List ℕ) (held : AreCodes codes) (fits : IsTuple most_items most_size t) where
+  first_least : (d : ℕ) (s : List ℕ) → Contains (map tuple_of_code codes) s → size_of_code (get_or codes 0 d) ≤ length s
+  first_least d s k =
+      let g = All-contains (IsTuple most_items most_size) (map tuple_of_code codes) s held.antichain.tuples k in
+      let r = code-from_member codes s held.coded k in
+      let l = IsNonDecreasing-from_codes codes held 0 r.0 d (omega arith) r.1 in
+      let e : get_or codes r.0 d ≡ code_of s = get_or_default codes r.0 d (code_of s) r.1 ∙ r.2 in
+      let c = held.coded 0 d (let m = r.1 in omega arith) in
+      let low = code_of-large (tuple_of_code (get_or codes 0 d)) in
+      let same = c.same in
+      let high = code_of-small s g in
+      let size = code_of-size s g in
+      omega arith
+
+  only_itself : (d : ℕ) → length t ≤ size_of_code (get_or codes 0 d) → (s : List ℕ) → Contains (map tuple_of_code codes) s → IsSubset s t → s ≡ t
+  only_itself d l s k has =
+      let g = All-contains (IsTuple most_items most_size) (map tuple_of_code codes) s held.antichain.tuples k in
+      elim (proper_or_equal most_items s t g.rising fits.rising has) [
+        | inl e ↦ e
+        | inr r ↦
+            let smaller = subset-proper r.0 t r.1 in
+            let e = ap (λ (u : List ℕ). length u) r.2 in
+            let m = first_least d s k in
+            absurd (omega arith)
+      ]
+
+  pub first-itself : (there : Bool) → IsTrue there ↔ Contains codes (code_of t) → IfSome (then_some there t) (λ s. IsFirstSubset (map tuple_of_code codes) t s)
+  first-itself true h =
+      let k = member-from_code codes t fits (h.0 refl) in
+      record { member = k; subset = λ item m. m; first = λ other l has. inl (held.antichain.apart other t l k has); }
+  first-itself false h = tt
+
+  pub none-itself : (d : ℕ) → length t ≤ size_of_code (get_or codes 0 d) → (there : Bool) → IsTrue there ↔ Contains codes (code_of t) →
+      IfNone (then_some there t) (Covers (map tuple_of_code codes) t → ⊥)
+  none-itself d l true h = tt
+  none-itself d l false h = λ c.
+      let P : List ℕ → Type 0 = λ s. Contains (map tuple_of_code codes) s in
+      let e = h.1 (code-from_member codes t held.coded (subst P (only_itself d l c.0 c.1 c.2) c.1)) in
+      cc

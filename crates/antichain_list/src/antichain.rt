@@ -6,11 +6,11 @@ ghost use Rattle.tuple_order.specs.Codes.{code_of, tuple_of_code};
 ghost use Rattle.antichain_list.specs.Held.{IsCode};
 ghost use Rattle.antichain_list.specs.Lists.{IsFirstSubset, MatchAdded, Joins, CoversBoth};
 
-use crate::codes::{drop_supersets, least_held, place_of, subset_count, tuple_of};
+use crate::codes::{drop_supersets, first_subset, has, place_of, tuple_of};
 use mask_bytes::OutOfMemory;
 use std::alloc::Global;
 use std::marker::Model;
-use tuple_order::Tuple;
+use tuple_order::{Tuple, size_in};
 
 /// A list of tuples in order, none a subset of another.
 #[derive(Drop)]
@@ -88,9 +88,11 @@ impl Antichain {
         if self.codes.is_empty() {
             return None;
         }
-        let subsets = t.subset_codes();
-        let code = least_held(&self.codes, &subsets[..subset_count(t)])?;
-        Some(tuple_of(code))
+        // No member is smaller than the first, so a tuple that isn't larger has no proper subset in the list.
+        if t.items().len() <= size_in(self.codes[0]) {
+            return has(&self.codes, t.code()).then_some(*t);
+        }
+        first_subset(&self.codes, t)
     }
 
     /// Adds a tuple and takes out its supersets, unless the list has a subset of it.

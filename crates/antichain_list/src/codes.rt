@@ -1,12 +1,14 @@
 //! Rising lists of codes: what is looked up in them, and what is taken out.
 
-ghost use Rattle.std.specs.Prelude.{◌≡◌, ◌↔◌, ℕ, ◌^◌, ◌<◌, ◌≤◌, ◌++◌, List, All, Contains, IsTrue, length, take, drop, slice_index, vec_len};
+ghost use Rattle.std.specs.Prelude.{◌≡◌, ◌↔◌, ℕ, ◌^◌, ◌<◌, ◌≤◌, ◌++◌, List, All, Contains, IsTrue, IfSome, IfNone, map, length, take, drop, slice_index, vec_len};
 ghost use Rattle.std.specs.List.Sorted.{IsNonDecreasing};
 ghost use Rattle.tuple_model.specs.Limits.{most_items, most_size};
 ghost use Rattle.tuple_model.specs.Tuples.{IsTuple, IsSubset};
 ghost use Rattle.tuple_model.specs.Minimal.{Picks};
 ghost use Rattle.tuple_order.specs.Codes.{tuple_of_code};
-ghost use Rattle.antichain_list.specs.Held.{IsCode, IsLeastOfBoth, IsLower, IsNoSuperset};
+ghost use Rattle.tuple_model.specs.Antichains.{Covers};
+ghost use Rattle.antichain_list.specs.Lists.{IsFirstSubset};
+ghost use Rattle.antichain_list.specs.Held.{AreCodes, IsCode, IsLeastOfBoth, IsLower, IsNoSuperset};
 
 use tuple_order::{Tuple, is_subset};
 
@@ -18,8 +20,21 @@ pub fn tuple_of(code: u64) -> Tuple
     Tuple::of_code(code).unwrap()
 }
 
-/// How many subsets a tuple has.
-pub fn subset_count(t: &Tuple) -> usize
+/// The first of the tuples with these codes that is a subset of `t`.
+// Apart from its caller: the pass over tuples that are no larger than the first member goes faster so.
+#[inline(never)]
+pub fn first_subset(list: &[u64], t: &Tuple) -> Option<Tuple>
+    requires { AreCodes list.now }
+    ensures first { IfSome result (λ s. IsFirstSubset (map tuple_of_code list.now) t.now s) }
+    ensures none { IfNone result (Covers (map tuple_of_code list.now) t.now → ⊥) }
+{
+    let subsets = t.subset_codes();
+    let code = least_held(list, &subsets[..subset_count(t)])?;
+    Some(tuple_of(code))
+}
+
+// How many subsets a tuple has.
+fn subset_count(t: &Tuple) -> usize
     ensures count { result ≡ 2 ^ length t.now }
     ensures few { result ≤ 64 }
     ensures tuple { IsTuple most_items most_size t.now }
@@ -27,8 +42,8 @@ pub fn subset_count(t: &Tuple) -> usize
     1 << t.items().len()
 }
 
-/// The least of the codes that stands in the list.
-pub fn least_held(list: &[u64], codes: &[u64]) -> Option<u64>
+// The least of the codes that stands in the list.
+fn least_held(list: &[u64], codes: &[u64]) -> Option<u64>
     requires { IsNonDecreasing list.now }
     ensures { IsLeastOfBoth list.now codes.now result }
 {
@@ -51,8 +66,8 @@ fn is_lower(code: u64, least: Option<u64>) -> bool
     }
 }
 
-// Whether a code stands in the list. Most codes that it lacks come before its first or after its last.
-fn has(list: &[u64], code: u64) -> bool
+/// Whether a code stands in the list. Most codes that it lacks come before its first or after its last.
+pub fn has(list: &[u64], code: u64) -> bool
     requires { IsNonDecreasing list.now }
     ensures { IsTrue result ↔ Contains list.now code }
 {

@@ -39,7 +39,7 @@ pub IsSubset-trans : (r s t : List ℕ) → IsSubset r s → IsSubset s t → Is
 IsSubset-trans r s t h k item l = k item (h item l)
 
 -- a proper subset of a tuple is smaller, and has a number below that of the tuple itself
-proper_or_equal : (high : ℕ) (s t : List ℕ) → IsRising 0 high s → IsRising 0 high t → IsSubset s t →
+pub proper_or_equal : (high : ℕ) (s t : List ℕ) → IsRising 0 high s → IsRising 0 high t → IsSubset s t →
     (s ≡ t) ⊎ ((k : ℕ) × (suc k < 2 ^ length t) × (subset k t ≡ s))
 proper_or_equal high s t g h has =
     let r = subset-from_members 0 high t s h g has in

@@ -83,8 +83,8 @@ fn read_digits(code: u64, items: &mut [u16])
     }
 }
 
-// The size that stands in a code.
-fn size_in(code: u64) -> usize
+/// The size that stands in a code.
+pub fn size_in(code: u64) -> usize
     ensures { result ≡ size_of_code code }
 {
     (code / ONE_MORE % 256) as usize
