@@ -2,5 +2,6 @@ pub mod Least
 pub mod InPlace
 pub mod Coded
 pub mod Lookup
+pub mod Marking
 pub mod Adding
 pub mod Joining

@@ -1,5 +1,5 @@
 -- The first subset of a tuple in a list is that with the least of the codes of all subsets that the list has.
-use Rattle.std.proofs.Common.{◌≡◌, ◌↔◌, ℕ, suc, ◌/◌, ◌%◌, ◌^◌, ◌<◌, ◌≤◌, Bool, true, false, IsTrue, List, map, length, length-take-le, take, get_or, Some, None, IfSome, IfNone, refl, ap, sym, ◌∙◌, inl, inr, arith, subst, Contains}
+use Rattle.std.proofs.Common.{◌≡◌, ◌↔◌, ℕ, ◌^◌, ◌<◌, ◌≤◌, Bool, true, false, IsTrue, List, map, length, length-take-le, take, get_or, Some, None, IfSome, IfNone, refl, ap, sym, ◌∙◌, inl, inr, arith, subst, Contains}
 use Rattle.std.specs.Bool.{then_some}
 use Rattle.std.proofs.lemmas.Bool.{cases_lt}
 use Rattle.std.proofs.lemmas.List.{get_or_default, get_or-take}
@@ -98,7 +98,7 @@ module _ (codes t : List ℕ) (held : AreCodes codes) (fits : IsTuple most_items
   pub first-itself : (there : Bool) → IsTrue there ↔ Contains codes (code_of t) → IfSome (then_some there t) (λ s. IsFirstSubset (map tuple_of_code codes) t s)
   first-itself true h =
       let k = member-from_code codes t fits (h.0 refl) in
-      record { member = k; subset = λ item m. m; first = λ other l has. inl (held.antichain.apart other t l k has); }
+      record { member = k; subset = λ item m. m; first = λ other l has. inl (held.antichain.apart other t l k has) }
   first-itself false h = tt
 
   pub none-itself : (d : ℕ) → length t ≤ size_of_code (get_or codes 0 d) → (there : Bool) → IsTrue there ↔ Contains codes (code_of t) →

@@ -1,5 +1,5 @@
 -- How a list of tuples is held: as their codes, which rise.
-use Rattle.std.specs.Prelude.{◌≡◌, ◌<◌, ◌≤◌, ℕ, List, Option, Some, None, All, Contains, map}
+use Rattle.std.specs.Prelude.{◌≡◌, ◌<◌, ◌≤◌, ℕ, Bool, false, IsTrue, List, Option, Some, None, All, Contains, map, slice_index_or}
 use Rattle.tuple_model.specs.Limits.{most_items, most_size}
 use Rattle.tuple_model.specs.Tuples.{IsTuple, IsSubset}
 use Rattle.tuple_model.specs.Antichains.{IsAntichain}
@@ -14,6 +14,20 @@ pub record IsCode (code : ℕ) : Type 0 where
 pub record AreCodes (codes : List ℕ) : Type 0 where
   pub coded : All IsCode codes
   pub antichain : IsAntichain (map tuple_of_code codes)
+
+-- the item is marked
+abbrev pub IsMarked : List Bool → ℕ → Type 0
+IsMarked marks item = IsTrue (slice_index_or marks item false)
+
+-- each item of a tuple with one of the codes is marked
+abbrev pub AreMarked : List Bool → List ℕ → Type 0
+AreMarked marks codes =
+    (t : List ℕ) → Contains (map tuple_of_code codes) t → (item : ℕ) → Contains t item → IsMarked marks item
+
+-- how a list is held: its codes, and marks of all items that occur in its tuples
+pub record AreHeld (codes : List ℕ) (marks : List Bool) : Type 0 where
+  pub held : AreCodes codes
+  pub marked : AreMarked marks codes
 
 -- the least number that stands in both lists, where there is one
 abbrev pub IsLeastOfBoth : List ℕ → List ℕ → Option ℕ → Type 0

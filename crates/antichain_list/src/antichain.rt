@@ -6,28 +6,31 @@ ghost use Rattle.tuple_order.specs.Codes.{code_of, tuple_of_code};
 ghost use Rattle.antichain_list.specs.Held.{IsCode};
 ghost use Rattle.antichain_list.specs.Lists.{IsFirstSubset, MatchAdded, Joins, CoversBoth};
 
-use crate::codes::{drop_supersets, first_subset, has, place_of, tuple_of};
+use crate::codes::{drop_supersets, first_subset, is_small, itself, place_of, tuple_of};
+use crate::marks::{Marks, mark};
 use mask_bytes::OutOfMemory;
 use std::alloc::Global;
 use std::marker::Model;
-use tuple_order::{Tuple, size_in};
+use tuple_order::{MOST_ITEMS, Tuple};
 
 /// A list of tuples in order, none a subset of another.
 #[derive(Drop)]
 pub struct Antichain {
     codes: Vec<u64>,
+    // Each item that occurs in a tuple of the list is marked.
+    marks: Marks,
 }
 
 impl Model for Antichain {
     ghost use Rattle.std.specs.Prelude.{ℕ, List, map};
     ghost use Rattle.tuple_order.specs.Codes.{tuple_of_code};
-    ghost use Rattle.antichain_list.specs.Held.{AreCodes};
+    ghost use Rattle.antichain_list.specs.Held.{AreHeld};
 
     ghost Value = { List (List ℕ) };
 
     ghost view = { λ a. map tuple_of_code a.codes.items };
 
-    ghost invariant = { λ a. AreCodes a.codes.items };
+    ghost invariant = { λ a. AreHeld a.codes.items a.marks };
 }
 
 /// What became of a tuple that was to be added.
@@ -46,6 +49,7 @@ impl Antichain {
     {
         Antichain {
             codes: Vec::new(alloc),
+            marks: [false; MOST_ITEMS as usize],
         }
     }
 
@@ -88,11 +92,10 @@ impl Antichain {
         if self.codes.is_empty() {
             return None;
         }
-        // No member is smaller than the first, so a tuple that isn't larger has no proper subset in the list.
-        if t.items().len() <= size_in(self.codes[0]) {
-            return has(&self.codes, t.code()).then_some(*t);
+        if is_small(&self.codes, t) {
+            return itself(&self.codes, t);
         }
-        first_subset(&self.codes, t)
+        first_subset(&self.codes, &self.marks, t)
     }
 
     /// Adds a tuple and takes out its supersets, unless the list has a subset of it.
@@ -119,6 +122,7 @@ impl Antichain {
         let place = place_of(&self.codes, code);
         // A refusal comes before anything is taken out.
         self.codes.insert(place, code)?;
+        mark(&mut self.marks, &t);
         drop_supersets(&mut self.codes, place + 1, &t);
         Ok(())
     }

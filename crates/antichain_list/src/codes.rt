@@ -5,12 +5,13 @@ ghost use Rattle.std.specs.List.Sorted.{IsNonDecreasing};
 ghost use Rattle.tuple_model.specs.Limits.{most_items, most_size};
 ghost use Rattle.tuple_model.specs.Tuples.{IsTuple, IsSubset};
 ghost use Rattle.tuple_model.specs.Minimal.{Picks};
-ghost use Rattle.tuple_order.specs.Codes.{tuple_of_code};
 ghost use Rattle.tuple_model.specs.Antichains.{Covers};
+ghost use Rattle.tuple_order.specs.Codes.{size_of_code, tuple_of_code};
+ghost use Rattle.antichain_list.specs.Held.{AreCodes, AreMarked, IsCode, IsLeastOfBoth, IsLower, IsNoSuperset};
 ghost use Rattle.antichain_list.specs.Lists.{IsFirstSubset};
-ghost use Rattle.antichain_list.specs.Held.{AreCodes, IsCode, IsLeastOfBoth, IsLower, IsNoSuperset};
 
-use tuple_order::{Tuple, is_subset};
+use crate::marks::{Marks, marked_part};
+use tuple_order::{Tuple, is_subset, size_in};
 
 /// The tuple with a code.
 pub fn tuple_of(code: u64) -> Tuple
@@ -20,10 +21,45 @@ pub fn tuple_of(code: u64) -> Tuple
     Tuple::of_code(code).unwrap()
 }
 
-/// The first of the tuples with these codes that is a subset of `t`.
-// Apart from its caller: the pass over tuples that are no larger than the first member goes faster so.
+/// Whether a tuple is no larger than the first of the list. Since no member is smaller than that one, no proper subset
+/// of such a tuple is there.
+pub fn is_small(list: &[u64], t: &Tuple) -> bool
+    requires { 0 < length list.now }
+    ensures { IsTrue result → length t.now ≤ size_of_code (slice_index list.now 0) }
+{
+    t.items().len() <= size_in(list[0])
+}
+
+/// The tuple, where it stands in a list that has no proper subset of it.
+pub fn itself(list: &[u64], t: &Tuple) -> Option<Tuple>
+    requires codes { AreCodes list.now }
+    requires small { length t.now ≤ size_of_code (slice_index list.now 0) }
+    ensures first { IfSome result (λ s. IsFirstSubset (map tuple_of_code list.now) t.now s) }
+    ensures none { IfNone result (Covers (map tuple_of_code list.now) t.now → ⊥) }
+{
+    has(list, t.code()).then_some(*t)
+}
+
+/// The first of the tuples with these codes, whose items are marked, that is a subset of `t`.
+// It isn't inlined, since the pass goes faster over small tuples so.
 #[inline(never)]
-pub fn first_subset(list: &[u64], t: &Tuple) -> Option<Tuple>
+pub fn first_subset(list: &[u64], marks: &Marks, t: &Tuple) -> Option<Tuple>
+    requires some { 0 < length list.now }
+    requires codes { AreCodes list.now }
+    requires marked { AreMarked marks.now list.now }
+    ensures first { IfSome result (λ s. IsFirstSubset (map tuple_of_code list.now) t.now s) }
+    ensures none { IfNone result (Covers (map tuple_of_code list.now) t.now → ⊥) }
+{
+    let part = marked_part(marks, t);
+    if is_small(list, &part) {
+        itself(list, &part)
+    } else {
+        first_of_subsets(list, &part)
+    }
+}
+
+// The first of the tuples with these codes that is a subset of `t`, looked up by the codes of all subsets.
+fn first_of_subsets(list: &[u64], t: &Tuple) -> Option<Tuple>
     requires { AreCodes list.now }
     ensures first { IfSome result (λ s. IsFirstSubset (map tuple_of_code list.now) t.now s) }
     ensures none { IfNone result (Covers (map tuple_of_code list.now) t.now → ⊥) }
@@ -66,8 +102,8 @@ fn is_lower(code: u64, least: Option<u64>) -> bool
     }
 }
 
-/// Whether a code stands in the list. Most codes that it lacks come before its first or after its last.
-pub fn has(list: &[u64], code: u64) -> bool
+// Whether a code stands in the list. Most codes that it lacks come before its first or after its last.
+fn has(list: &[u64], code: u64) -> bool
     requires { IsNonDecreasing list.now }
     ensures { IsTrue result ↔ Contains list.now code }
 {

@@ -3,5 +3,6 @@
 
 mod antichain;
 mod codes;
+mod marks;
 
 pub use antichain::{Added, Antichain};

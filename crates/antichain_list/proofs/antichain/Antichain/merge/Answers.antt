@@ -20,7 +20,7 @@ minimal_of-requires c =
     let other = c.other.inside.codes.items in
     let p = permuted one other c.in_ok-codes.codes.items c.deref-2.result.now c.extend_from_slice.new.self.items c.sort_unstable.new.self.items c.deref-3.result.now
     (c.in_ok-codes.ensures.items ∙ c.deref.ensures.value) c.deref-2.ensures.value c.in_ok-extend_from_slice.ensures.items c.sort_unstable.ensures.permutation c.deref-3.ensures.value in
-    coded-permuted one other c.deref-3.result.now p c.self.invariant.coded c.other.invariant.coded
+    coded-permuted one other c.deref-3.result.now p c.self.invariant.held.coded c.other.invariant.held.coded
 
 covers : (c : goal.After-drop-codes-2) → CoversBoth (map tuple_of_code c.self.inside.codes.items) (map tuple_of_code c.other.inside.codes.items) c.in_ok-self-inside.field-0
 covers c =
@@ -35,7 +35,7 @@ returns-clause-joined c =
     let one = map tuple_of_code c.self.inside.codes.items in
     let other = map tuple_of_code c.other.inside.codes.items in
     rw (c.drop.view_is, ← c.self.view_is, ← c.other.view_is)
-    (Joins-from_covers one other c.in_ok-self-inside.field-0 c.self.invariant.antichain c.other.invariant.antichain c.in_ok-self-inside.ensures.antichain (covers c))
+    (Joins-from_covers one other c.in_ok-self-inside.field-0 c.self.invariant.held.antichain c.other.invariant.held.antichain c.in_ok-self-inside.ensures.antichain (covers c))
 
 pub returns-clause-covers : goal.returns-clause-covers
 returns-clause-covers c = rw (c.drop.view_is, ← c.self.view_is, ← c.other.view_is) (covers c)
