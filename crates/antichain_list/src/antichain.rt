@@ -16,9 +16,9 @@ use tuple_order::{MOST_ITEMS, Tuple};
 /// A list of tuples in order, none a subset of another.
 #[derive(Drop)]
 pub struct Antichain {
-    codes: Vec<u64>,
     // Each item that occurs in a tuple of the list is marked.
     marks: Marks,
+    codes: Vec<u64>,
 }
 
 impl Model for Antichain {
@@ -48,8 +48,8 @@ impl Antichain {
         ensures { result ≡ [] }
     {
         Antichain {
-            codes: Vec::new(alloc),
             marks: [false; MOST_ITEMS as usize],
+            codes: Vec::new(alloc),
         }
     }
 
