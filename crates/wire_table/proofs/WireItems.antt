@@ -1,20 +1,23 @@
 -- The wires that leak, as items: few, each of one variable, with the weights that the table gives.
-use Rattle.std.proofs.Common.{◌≡◌, ◌+◌, ◌*◌, ◌<◌, ◌≤◌, ◌^◌, ℕ, Bool, eqb, List, [], ◌∷◌, ◌++◌, map, length, slice_index_or, count_by, ap, ◌∙◌, arith, Option}
+use Rattle.std.proofs.Common.{◌≡◌, ◌+◌, ◌-◌, ◌*◌, ◌<◌, ◌≤◌, ◌^◌, ℕ, Bool, true, false, eqb, if◌then◌else◌, Some, None, Contains, List, [], ◌∷◌, ◌++◌, map, length, slice_index_or, count_by, ap, ◌∙◌, arith, Option}
 use Rattle.std.specs.Prelude.{flat_map, is_some, nat_lt}
 use Rattle.std.specs.List.{All, filter, range_with_len}
 use Rattle.std.proofs.Math.ListN.{length-map}
 use Rattle.std.proofs.lemmas.List.FromFn.{length-range_with_len}
-use Rattle.std.proofs.lemmas.List.Elements.{All-cons, All-nil, All-map, All-filter}
+use Rattle.std.proofs.lemmas.List.Elements.{All-cons, All-nil, All-map, All-filter, All-weaker, All-contains_itself}
 use Rattle.std.proofs.lemmas.List.Sums.{length-filter, count_by-le-length}
 use Rattle.gadget_model.specs.Circuit.{Circuit, Node, share, random, copy, sum_of, product_of, nodes}
 use Rattle.gadget_tree.specs.Gadgets.{IsGadget, IsOutOf}
 use Rattle.list_laws.proofs.Counts.{count_by-cons}
+use Rattle.list_laws.proofs.Once.{Contains-from_filter}
+use Rattle.std.proofs.lemmas.Bool.{ltb-true}
 use Rattle.mask_terms.specs.declared.wires.Wires.{Wires}
+use Rattle.mask_terms.specs.declared.wires.Wires.TheVariants.{Plain, Copies}
 use Rattle.wire_table.specs.Items.{Item, output_index, weighted_item, numbers, HasFewVariables, HasVariablesBelow}
 use Rattle.wire_table.specs.Tables.{Table, StandsFor}
 use Rattle.wire_table.specs.Uses.{operands, uses_of, wire_count, weight_of, wire_items}
 use Rattle.wire_table.proofs.OutputPlaces.{is_output}
-use Rattle.wire_table.proofs.Ranges.{All-range}
+use Rattle.wire_table.proofs.Ranges.{All-range, lt-from_range, passes-from_filter}
 
 -- a node has at most two operand places
 one_more : (p : ℕ → Bool) (a : ℕ) (rest : List ℕ) (n : ℕ) → count_by p rest ≤ n → count_by p (a ∷ rest) ≤ n + 1
@@ -47,6 +50,16 @@ module _ (g : Circuit) (is : IsGadget g) (t : Table) (stands : StandsFor t g) (v
   weight-at wires r some weight out e counts =
       counts (output_index g v) (is_output g is v r out ∙ e) ∙ ap (wire_count wires (output_index g v)) (found ∙ stands.uses v l)
 
+if-le : (b : Bool) (x y most : ℕ) → x ≤ most → y ≤ most → (if b then x else y) ≤ most
+if-le true x y most h k = h
+if-le false x y most h k = k
+
+wire_count-few : (wires : Wires) (index : Option ℕ) (uses n : ℕ) → uses ≤ 2 * n → 1 ≤ n → wire_count wires index uses ≤ 4 * n
+wire_count-few Plain None uses n few some = omega arith
+wire_count-few Plain (Some index) uses n few some = if-le (eqb uses 0) 0 1 (4 * n) (omega arith) (omega arith)
+wire_count-few Copies None uses n few some = if-le (eqb uses 0) 1 (2 * uses - 1) (4 * n) (omega arith) (omega arith)
+wire_count-few Copies (Some index) uses n few some = omega arith
+
 -- what holds of each variable as an item holds of the wires
 module _ (wires : Wires) (g : Circuit) where
   All-wires : (P : Item → Type 0) → ((v : ℕ) → v < length g.variables → P (weighted_item g (weight_of wires g v) v)) → All P (wire_items wires g)
@@ -62,6 +75,21 @@ module _ (wires : Wires) (g : Circuit) where
   pub variables_below-wires : All (HasVariablesBelow (length g.variables)) (wire_items wires g)
   variables_below-wires =
       All-wires (HasVariablesBelow (length g.variables)) (λ v l. All-cons (λ w. w < length g.variables) v [] l (All-nil (λ w. w < length g.variables)))
+
+  -- each stands for some wire, and for few
+  pub weights-wires : All (λ item. (1 ≤ item.weight) × (item.weight ≤ 4 * length g.variables)) (wire_items wires g)
+  unfolding wire_items
+  weights-wires =
+      let item : ℕ → Item = λ v. weighted_item g (weight_of wires g v) v in
+      let leaks : ℕ → Bool = λ v. nat_lt 0 (weight_of wires g v) in
+      let P : Item → Type 0 = λ item. (1 ≤ item.weight) × (item.weight ≤ 4 * length g.variables) in
+      All-map P item (filter leaks (numbers g))
+      (All-weaker (Contains (filter leaks (numbers g))) (λ v. P (item v))
+      (λ v c.
+      let l = lt-from_range (length g.variables) v (Contains-from_filter leaks (numbers g) v c) in
+      let some = ltb-true 0 (weight_of wires g v) (passes-from_filter leaks (numbers g) v c) in
+      (omega arith, wire_count-few wires (output_index g v) (uses_of g v) (length g.variables) (few_uses g v) (omega arith)))
+      (filter leaks (numbers g)) (All-contains_itself (filter leaks (numbers g))))
 
   pub few_wires : length (wire_items wires g) ≤ length g.variables
   unfolding wire_items
