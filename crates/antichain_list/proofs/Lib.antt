@@ -4,4 +4,5 @@ pub mod Coded
 pub mod Lookup
 pub mod Marking
 pub mod Adding
+pub mod Staying
 pub mod Joining

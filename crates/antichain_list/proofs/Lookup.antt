@@ -83,7 +83,7 @@ module _ (codes t : List ℕ) (held : AreCodes codes) (fits : IsTuple most_items
       let size = code_of-size s g in
       omega arith
 
-  only_itself : (d : ℕ) → length t ≤ size_of_code (get_or codes 0 d) → (s : List ℕ) → Contains (map tuple_of_code codes) s → IsSubset s t → s ≡ t
+  pub only_itself : (d : ℕ) → length t ≤ size_of_code (get_or codes 0 d) → (s : List ℕ) → Contains (map tuple_of_code codes) s → IsSubset s t → s ≡ t
   only_itself d l s k has =
       let g = All-contains (IsTuple most_items most_size) (map tuple_of_code codes) s held.antichain.tuples k in
       elim (proper_or_equal most_items s t g.rising fits.rising has) [

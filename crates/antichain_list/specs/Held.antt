@@ -1,5 +1,5 @@
 -- How a list of tuples is held: as their codes, which rise.
-use Rattle.std.specs.Prelude.{◌≡◌, ◌<◌, ◌≤◌, ℕ, Bool, false, IsTrue, List, Option, Some, None, All, Contains, map, slice_index_or}
+use Rattle.std.specs.Prelude.{◌≡◌, ◌↔◌, ◌⊎◌, ◌<◌, ◌≤◌, ℕ, Bool, false, IsTrue, List, Option, Some, None, All, Contains, map, slice_index_or}
 use Rattle.tuple_model.specs.Limits.{most_items, most_size}
 use Rattle.tuple_model.specs.Tuples.{IsTuple, IsSubset}
 use Rattle.tuple_model.specs.Antichains.{IsAntichain}
@@ -43,3 +43,12 @@ IsLower n (Some other) = n < other
 -- the code is that of no superset of the tuple
 abbrev pub IsNoSuperset : List ℕ → ℕ → Type 0
 IsNoSuperset t code = IsSubset t (tuple_of_code code) → ⊥
+
+-- no tuple with one of the codes is a proper subset of that with the code
+abbrev pub NoneWithin : List ℕ → ℕ → Type 0
+NoneWithin codes code = (n : ℕ) → Contains codes n → IsSubset (tuple_of_code n) (tuple_of_code code) → n ≡ code
+
+-- beside the codes that it had, the list has those of one list that no code of the other is within
+abbrev pub Gains : List ℕ → List ℕ → List ℕ → List ℕ → Type 0
+Gains before codes others after =
+    (n : ℕ) → Contains after n ↔ (Contains before n ⊎ (Contains codes n × NoneWithin others n))

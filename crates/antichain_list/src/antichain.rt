@@ -7,7 +7,8 @@ ghost use Rattle.antichain_list.specs.Held.{IsCode};
 ghost use Rattle.antichain_list.specs.Lists.{IsFirstSubset, MatchAdded, Joins, CoversBoth};
 
 use crate::codes::{drop_supersets, first_subset, is_small, itself, place_of, tuple_of};
-use crate::marks::{Marks, mark};
+use crate::marks::{Marks, mark, mark_all};
+use crate::merging::add_minimal;
 use mask_bytes::OutOfMemory;
 use std::alloc::Global;
 use std::marker::Model;
@@ -135,24 +136,14 @@ impl Antichain {
         ensures antichain { IsAntichain self.new }
     {
         let alloc = *self.codes.allocator();
-        let mut codes = Vec::from_slice(alloc, &self.codes)?;
-        codes.extend_from_slice(&other.codes)?;
-        // In order, no tuple comes before a subset of it, so each that stays is added at the end.
-        codes.sort_unstable();
-        *self = minimal_of(alloc, &codes)?;
+        let mut codes = Vec::with_capacity(alloc, self.len().saturating_add(other.len()))?;
+        add_minimal(&mut codes, &self.codes, &other.codes, &other.marks)?;
+        add_minimal(&mut codes, &other.codes, &self.codes, &self.marks)?;
+        // Two rising lists stand one after the other, which this sort merges in one pass.
+        codes.sort()?;
+        codes.dedup();
+        self.codes = codes;
+        mark_all(&mut self.marks, &other.marks);
         Ok(())
     }
-}
-
-// The minimal ones of the tuples with these codes.
-fn minimal_of(alloc: Global, codes: &[u64]) -> Result<Antichain, OutOfMemory>
-    requires { All IsCode codes.now }
-    ensures covers { IfOk result (λ list. CoversSame list (map tuple_of_code codes.now)) }
-    ensures antichain { IfOk result IsAntichain }
-{
-    let mut list = Antichain::new(alloc);
-    for code in codes {
-        list.add(tuple_of(*code))?;
-    }
-    Ok(list)
 }

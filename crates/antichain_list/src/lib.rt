@@ -4,5 +4,6 @@
 mod antichain;
 mod codes;
 mod marks;
+mod merging;
 
 pub use antichain::{Added, Antichain};

@@ -18,6 +18,15 @@ pub fn mark(marks: &mut Marks, t: &Tuple)
     }
 }
 
+/// Marks what the others mark too.
+pub fn mark_all(marks: &mut Marks, others: &Marks)
+    ensures { (item : ℕ) → (IsMarked marks.old item ⊎ IsMarked others.now item) → IsMarked marks.new item }
+{
+    for item in 0..others.len() {
+        marks[item] |= others[item];
+    }
+}
+
 /// A subset of a tuple that has all its marked items.
 pub fn marked_part(marks: &Marks, t: &Tuple) -> Tuple
     ensures subset { IsSubset result t.now }

@@ -1,6 +1,7 @@
 //! Small lists, worked out by hand.
 
 use antichain_list::{Added, Antichain};
+use std::alloc::Global;
 use std::process::Abort;
 use std::test::Fail;
 use tuple_order::Tuple;
@@ -45,6 +46,39 @@ fn merges_the_minimal_tuples(rt: HostRuntime) -> Result<(), Fail> {
     let _kept = other.add(tuple(&rt, &[0, 2]))?;
     list.merge(&other)?;
     assert_eq!(rt; list.tuples(), [ZERO, ONE].as_slice());
+    Ok(())
+}
+
+// The list of the tuples that are added.
+fn list_of(rt: &impl Abort, alloc: Global, tuples: &[&[u16]]) -> Result<Antichain, Fail> {
+    let mut list = Antichain::new(alloc);
+    for items in tuples {
+        let _added = list.add(tuple(rt, items))?;
+    }
+    Ok(list)
+}
+
+#[test]
+fn merges_lists_of_mixed_sizes_that_cover_some_of_each_other(rt: HostRuntime) -> Result<(), Fail> {
+    let mut list = list_of(&rt, rt.alloc(), &[&[4], &[0, 1], &[2, 3], &[5, 6, 7]])?;
+    let other = list_of(
+        &rt,
+        rt.alloc(),
+        &[&[2], &[4, 8], &[5, 6], &[0, 1], &[1, 3, 7], &[0, 3, 7, 9]],
+    )?;
+    list.merge(&other)?;
+    let joined = list_of(
+        &rt,
+        rt.alloc(),
+        &[&[2], &[4], &[0, 1], &[5, 6], &[1, 3, 7], &[0, 3, 7, 9]],
+    )?;
+    assert_eq!(rt; list.tuples(), joined.tuples());
+    assert_eq!(rt; list.len(), 6);
+    // Items that came in from the other list are looked up too.
+    let last = list
+        .covers(&tuple(&rt, &[0, 3, 7, 8, 9]))
+        .expect(&rt, "covered");
+    assert_eq!(rt; last.items(), [0, 3, 7, 9].as_slice());
     Ok(())
 }
 

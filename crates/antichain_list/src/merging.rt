@@ -1,0 +1,92 @@
+//! Which codes of two lists stay where the lists are merged.
+
+ghost use Rattle.std.specs.Prelude.{◌≡◌, ◌↔◌, ◌<◌, ◌≤◌, ◌*◌, ◌+◌, ◌^◌, ℕ, All, Contains, IsTrue, OnOk, length, take};
+ghost use Rattle.tuple_order.specs.Codes.{size_of_code};
+ghost use Rattle.antichain_list.specs.Held.{AreCodes, AreMarked, Gains, IsCode, NoneWithin};
+
+use crate::codes::{first_subset, place_of, tuple_of};
+use crate::marks::Marks;
+use mask_bytes::OutOfMemory;
+use tuple_order::size_in;
+
+/// Adds the codes of one list of whose tuples no tuple of the other list is a proper subset. Only tuples that are
+/// smaller than the greatest of the one list are looked up, and where there are none, no code of it is read.
+pub fn add_minimal(
+    codes: &mut Vec<u64>,
+    list: &[u64],
+    others: &[u64],
+    marks: &Marks,
+) -> Result<(), OutOfMemory>
+    requires list { AreCodes list.now }
+    requires others { AreCodes others.now }
+    requires marked { AreMarked marks.now others.now }
+    ensures { OnOk result (Gains codes.old.items list.now others.now codes.new.items) }
+{
+    let smaller = smaller_count(others, list);
+    if smaller == 0 {
+        codes.extend_from_slice(list)?;
+        return Ok(());
+    }
+    add_uncovered(codes, list, &others[..smaller], marks)
+}
+
+// Adds the codes of one list of whose tuples no tuple with one of the other codes is a proper subset.
+fn add_uncovered(
+    codes: &mut Vec<u64>,
+    list: &[u64],
+    others: &[u64],
+    marks: &Marks,
+) -> Result<(), OutOfMemory>
+    requires list { All IsCode list.now }
+    requires some { 0 < length others.now }
+    requires others { AreCodes others.now }
+    requires marked { AreMarked marks.now others.now }
+    ensures { OnOk result (Gains codes.old.items list.now others.now codes.new.items) }
+{
+    for code in list {
+        if has_none_within(others, marks, *code) {
+            codes.push(*code)?;
+        }
+    }
+    Ok(())
+}
+
+// Whether no tuple of a list is a proper subset of that with a code. One that is no larger than the first of the list
+// isn't looked up.
+fn has_none_within(list: &[u64], marks: &Marks, code: u64) -> bool
+    requires some { 0 < length list.now }
+    requires list { AreCodes list.now }
+    requires marked { AreMarked marks.now list.now }
+    requires code { IsCode code }
+    ensures { IsTrue result ↔ NoneWithin list.now code }
+{
+    if size_in(code) <= size_in(list[0]) {
+        return true;
+    }
+    match first_subset(list, marks, &tuple_of(code)) {
+        Some(s) => s.code() == code,
+        None => true,
+    }
+}
+
+// How many codes of a list, from its start, are those of tuples that are smaller than the greatest of another list.
+fn smaller_count(list: &[u64], other: &[u64]) -> usize
+    requires list { AreCodes list.now }
+    requires other { AreCodes other.now }
+    ensures within { result ≤ length list.now }
+    ensures smaller { (m n : ℕ) → Contains list.now m → Contains other.now n → size_of_code m < size_of_code n →
+        Contains (take result list.now) m }
+{
+    if other.is_empty() {
+        return 0;
+    }
+    place_of(list, lowest_of(size_in(other[other.len() - 1])))
+}
+
+// No code of a tuple of this size is lower, and that of each smaller tuple is.
+fn lowest_of(size: usize) -> u64
+    requires { size < 256 }
+    ensures { result ≡ 2 ^ 62 + size * 2 ^ 54 }
+{
+    (1 << 62) + ((size as u64) << 54)
+}
