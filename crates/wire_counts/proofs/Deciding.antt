@@ -1,0 +1,90 @@
+-- Coefficients of what a list covers, which is settled for each tuple: sums over the tuples that it covers.
+use Rattle.std.proofs.Common.{◌≡◌, ℕ, ◌*◌, ◌≤◌, ◌⊎◌, List, [], ◌∷◌, length, Contains, refl, ap, sym, ◌∙◌, inl, inr, arith, subst}
+use Rattle.std.specs.List.{sum_by}
+use Rattle.std.proofs.lemmas.Bool.{cases_eq}
+use Rattle.std.proofs.lemmas.List.Sums.{sum_by-cons}
+use Rattle.list_laws.proofs.Members.{Contains-cons_head, Contains-cons_tail, Contains-cons_cases}
+use Rattle.list_laws.proofs.Once.{Contains-nil}
+use Rattle.tuple_model.specs.Tuples.{IsSubset, tuples}
+use Rattle.tuple_model.specs.Minimal.{Picks}
+use Rattle.tuple_model.specs.Antichains.{Covers}
+use Rattle.wire_counts.specs.Coefficients.{item_wires, sets_of, items_of, IsCoefficient}
+use Rattle.wire_counts.specs.Ways.{sets_with}
+use Rattle.wire_counts.proofs.ByTuples.{over-tuples}
+
+contains_or_not : (xs : List ℕ) (x : ℕ) → Contains xs x ⊎ (Contains xs x → ⊥)
+contains_or_not [] x = inr (Contains-nil x)
+contains_or_not (y ∷ xs) x = elim (cases_eq y x) [
+  | inl same ↦ inl (subst (Contains (y ∷ xs)) same (Contains-cons_head y xs))
+  | inr other ↦ elim (contains_or_not xs x) [
+    | inl h ↦ inl (Contains-cons_tail y xs x h)
+    | inr n ↦ inr (λ h. elim (Contains-cons_cases y xs x h) [ inl e ↦ other e | inr k ↦ n k ])
+  ]
+]
+
+subset_or_not : (s t : List ℕ) → IsSubset s t ⊎ (IsSubset s t → ⊥)
+subset_or_not [] t = inl (λ item h. absurd (Contains-nil item h))
+subset_or_not (x ∷ s) t = elim (contains_or_not t x) [
+  | inr n ↦ inr (λ h. n (h x (Contains-cons_head x s)))
+  | inl here ↦ elim (subset_or_not s t) [
+    | inr n ↦ inr (λ h. n (λ item k. h item (Contains-cons_tail x s item k)))
+    | inl rest ↦ inl (λ item h. elim (Contains-cons_cases x s item h) [ inl e ↦ subst (Contains t) e here | inr k ↦ rest item k ])
+  ]
+]
+
+pub covers_or_not : (list : List (List ℕ)) (t : List ℕ) → Covers list t ⊎ (Covers list t → ⊥)
+covers_or_not [] t = inr (λ h. Contains-nil h.0 h.1)
+covers_or_not (s ∷ list) t = elim (subset_or_not s t) [
+  | inl here ↦ inl (s, Contains-cons_head s list, here)
+  | inr other ↦ elim (covers_or_not list t) [
+    | inl h ↦ inl (h.0, Contains-cons_tail s list h.0 h.1, h.2)
+    | inr n ↦ inr (λ h. elim (Contains-cons_cases s list h.0 h.1) [
+      | inl e ↦ other (subst (λ (u : List ℕ). IsSubset u t) (sym e) h.2)
+      | inr k ↦ n (h.0, k, h.2)
+    ])
+  ]
+]
+
+-- 1 where a fact holds, else 0
+abbrev pub one_where : {P : Type 0} → P ⊎ (P → ⊥) → ℕ
+one_where (inl h) = 1
+one_where (inr n) = 0
+
+pub one_where-holds : {P : Type 0} (settled : P ⊎ (P → ⊥)) → P → one_where settled ≡ 1
+one_where-holds (inl h) p = refl
+one_where-holds (inr n) p = absurd (n p)
+
+pub one_where-fails : {P : Type 0} (settled : P ⊎ (P → ⊥)) → (P → ⊥) → one_where settled ≡ 0
+one_where-fails (inl h) m = absurd (m h)
+one_where-fails (inr n) m = refl
+
+-- what is settled for each element is picked, and the picked are as many as the elements that it holds of
+picked-settled : {X : Type 0} (P : X → Type 0) (settled : (x : X) → P x ⊎ (P x → ⊥)) (xs : List X) →
+    (picked : List X) × Picks P xs picked × (length picked ≡ sum_by (λ x. one_where (settled x)) xs)
+picked-settled P settled [] = ([], refl, refl)
+picked-settled P settled (x ∷ xs) =
+    let r = picked-settled P settled xs in
+    let e = sum_by-cons (λ x. one_where (settled x)) x xs in
+    elim (settled x) [
+      | inl h ↦ let o = one_where-holds (settled x) h in (x ∷ r.0, inl (h, r.0, refl, r.1), let c = r.2 in omega arith)
+      | inr n ↦ let o = one_where-fails (settled x) n in (r.0, inr (n, r.1), let c = r.2 in omega arith)
+    ]
+
+pub picked_of : (list ts : List (List ℕ)) → (picked : List (List ℕ)) × Picks (Covers list) ts picked
+picked_of list ts = let r = picked-settled (Covers list) (covers_or_not list) ts in (r.0, r.1)
+
+-- one more of the tuples that a list covers, or none
+abbrev pub covered : List (List ℕ) → List ℕ → ℕ
+covered list t = one_where (covers_or_not list t)
+
+pub coefficient-covered : (list : List (List ℕ)) (weights : List ℕ) (size i n : ℕ) → i ≤ size →
+    n ≡ sum_by (λ t. covered list t * sets_with weights t i) (tuples (length weights) size) → IsCoefficient (Covers list) weights i n
+coefficient-covered list weights size i n l e =
+    let r = picked-settled (λ set. Covers list (items_of set)) (λ set. covers_or_not list (items_of set)) (sets_of i (item_wires weights)) in
+    record { failing = r.0; picked = r.1; count = r.2 ∙ over-tuples weights size i (covered list) l ∙ sym e }
+
+pub covered_at_most : (list : List (List ℕ)) (t : List ℕ) (n : ℕ) → covered list t * n ≤ 1 * n
+covered_at_most list t n = elim (covers_or_not list t) [
+  | inl h ↦ let e = ap (λ (m : ℕ). m * n) (one_where-holds (covers_or_not list t) h) in omega arith
+  | inr m ↦ let e = ap (λ (m : ℕ). m * n) (one_where-fails (covers_or_not list t) m) in omega arith
+]

@@ -1,0 +1,9 @@
+use Rattle.std.proofs.Common.{arith}
+use Rattle.wire_counts.proofs.counting.fn.count_sets.map.Goals as goal
+
+pub count_range-requires : goal.count_range-requires
+count_range-requires c = record {
+  limits = c.requires.0;
+  some = omega (arith, c.requires, c.block_at.ensures);
+  ranks = omega (arith, c.requires, c.block_at.ensures);
+}

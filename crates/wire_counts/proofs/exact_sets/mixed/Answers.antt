@@ -1,0 +1,14 @@
+use Rattle.std.proofs.Common.{◌≡◌, ◌+◌, ◌-◌, ap, slice_index, arith}
+use Rattle.wire_counts.specs.Ways.{chosen, mix}
+use Rattle.wire_counts.proofs.Mixes.{terms, terms-all}
+use Rattle.wire_counts.proofs.exact_sets.mixed.Goals as goal
+
+pub loop-taken-init : goal.loop-taken-init
+loop-taken-init c =
+    let a = chosen c.args.choices.now in
+    let b = slice_index c.args.sets.now in
+    let n = c.args.more in
+    let e = ap (terms a b n) (let f : n + 1 - 0 ≡ n + 1 = omega arith in f) in
+    let f = terms-all a b n in
+    let g : 0 + terms a b n (n + 1 - 0) ≡ mix a b n = omega arith in
+    g

@@ -1,0 +1,5 @@
+pub mod Coefficients
+-- The theorem of `check` doesn't rest on what follows: proofs and the contracts of inner calls use it.
+pub mod Limits
+pub mod Laws
+pub mod Ways

@@ -1,0 +1,10 @@
+//! How many sets of wires fail, of each size.
+#![tactic(auto)]
+
+mod choices;
+mod counting;
+mod exact_sets;
+mod laws;
+
+pub use counting::coefficients;
+pub use laws::coefficient_law;
