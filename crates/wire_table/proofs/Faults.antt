@@ -65,7 +65,7 @@ other_of (a ∷ b ∷ vs) v up more =
     ]
 
 -- two members make a list of two or more
-two_members : (vs : List ℕ) (v w : ℕ) → Contains vs v → Contains vs w → v ≢ w → 1 < length vs
+pub two_members : (vs : List ℕ) (v w : ℕ) → Contains vs v → Contains vs w → v ≢ w → 1 < length vs
 two_members [] v w p q other = absurd (omega (arith, p.1))
 two_members (a ∷ []) v w p q other = elim (Contains-cons_cases a [] v p) [
   | inl e ↦ elim (Contains-cons_cases a [] w q) [ inl f ↦ absurd (other (sym e ∙ f)) | inr h ↦ absurd (omega (arith, h.1)) ]
@@ -132,7 +132,7 @@ one_of_two a b v h = elim (Contains-cons_cases a (b ∷ []) v h) [
 ]
 
 -- three members make a list of three or more
-three_members : (vs : List ℕ) (u v w : ℕ) → u < v → v < w → Contains vs u → Contains vs v → Contains vs w → 2 < length vs
+pub three_members : (vs : List ℕ) (u v w : ℕ) → u < v → v < w → Contains vs u → Contains vs v → Contains vs w → 2 < length vs
 three_members [] u v w less more p q r = absurd (omega (arith, p.1))
 three_members (a ∷ []) u v w less more p q r = absurd (let two = two_members (a ∷ []) u v p q (λ e. absurd (omega arith)) in omega arith)
 three_members (a ∷ b ∷ []) u v w less more p q r =

@@ -1,0 +1,4 @@
+pub mod Gadgets
+pub mod Files
+pub mod Class
+pub mod DemoFiles

@@ -1,0 +1,4 @@
+pub mod Texts
+pub mod Limits
+-- The theorem of `check` doesn't rest on what follows: proofs and the contracts of inner calls use it.
+pub mod Rows
