@@ -2,9 +2,11 @@
 ghost use Rattle.std.specs.Prelude.{◌≤◌};
 
 use mask_bytes::{MemSink, MemSource, Source, SureSource};
-use mask_check::{Status, check};
+use mask_check::{OpenGate, Status, Tally, check};
 use std::alloc::Global;
+use std::marker::Sync;
 use std::test::Fail;
+use std::thread::Threads;
 
 /// A gadget file of 44 bytes, whose first output share is the sum of both input shares.
 pub const SUM: &str = "#SHARES 2\n#IN a\n#OUT d\nd0 = a0 + a1\nd1 = a1\n";
@@ -19,6 +21,15 @@ pub const REFRESH: &str = "#SHARES 2\n#IN a\n#RANDOMS r0\n#OUT d\nd0 = a0 + r0\n
 /// The report of `REFRESH` at order 1: no probe depends on a share, but for the shares themselves.
 pub const REFRESH_REPORT: &str =
     "check ni 1\ngadget shares 2 inputs 1 outputs 1 randoms 1 variables 5\nspace items 5 size 1 tuples 6\nverdict yes\n";
+
+/// The multiplication of two shares of Ishai, Sahai and Wagner.
+pub const MULTIPLICATION: &str =
+    "#SHARES 2\n#IN a b\n#RANDOMS r01\n#OUT c\np00 = a0 * b0\np01 = a0 * b1\np10 = a1 * b0\np11 = a1 * b1\nu01 = r01 + p01\nr10 = u01 + p10\nc0 = p00 + r01\nc1 = p11 + r10\n";
+
+/// A check of `REFRESH` for strong non-interference at order 2: the output shares sum to both shares of the input, and no
+/// probe inside pays for them.
+pub const PAIR_REPORT: &str =
+    "check sni 2\ngadget shares 2 inputs 1 outputs 1 randoms 1 variables 5\nspace items 5 size 2 tuples 16\nfail 2 d0 d1\nverdict no\n";
 
 /// How a check ended, and what it wrote.
 #[derive(Drop)]
@@ -45,42 +56,70 @@ pub fn source_of(alloc: Global, file: &str, most: usize, fails: &[u32]) -> Resul
 }
 
 /// Checks a file as the words after the program's name ask.
-pub fn check_as(alloc: Global, asked: &[&str], file: &str) -> Result<Outcome, Fail> {
+pub fn check_as<R: AllocGlobal + Threads + Sync>(
+    rt: &R,
+    asked: &[&str],
+    file: &str,
+) -> Result<Outcome, Fail> {
+    check_tallied(rt, asked, file, &mut Vec::new(rt.alloc()))
+}
+
+/// Checks a file as the words after the program's name ask, with these tallies.
+pub fn check_tallied<R: AllocGlobal + Threads + Sync>(
+    rt: &R,
+    asked: &[&str],
+    file: &str,
+    tallies: &mut Vec<Box<dyn Tally>>,
+) -> Result<Outcome, Fail> {
+    let alloc = rt.alloc();
+    let mut source = SureSource::make(file.as_bytes().to_vec(alloc)?);
+    let sink = MemSink::make(alloc, 1000, 1000, Vec::new(alloc))?;
+    check_whole(rt, asked, &mut source, sink, tallies)
+}
+
+/// Checks what `source` gives at an order, into a sink.
+pub fn check_into<R: AllocGlobal + Threads + Sync, S: Source>(
+    rt: &R,
+    order: &str,
+    source: &mut S,
+    sink: MemSink,
+) -> Result<Outcome, Fail> {
+    check_whole(rt, &["ni", order], source, sink, &mut Vec::new(rt.alloc()))
+}
+
+/// Checks what `source` gives as the words after the program's name ask, into a sink, with these tallies.
+pub fn check_whole<R: AllocGlobal + Threads + Sync, S: Source>(
+    rt: &R,
+    asked: &[&str],
+    source: &mut S,
+    mut sink: MemSink,
+    tallies: &mut Vec<Box<dyn Tally>>,
+) -> Result<Outcome, Fail> {
+    let alloc = rt.alloc();
     let mut words = owned(alloc, &["mask"])?;
     for word in asked {
         words.push(String::from_str(alloc, word)?)?;
     }
-    let mut source = SureSource::make(file.as_bytes().to_vec(alloc)?);
-    let mut sink = MemSink::make(alloc, 1000, 1000, Vec::new(alloc))?;
-    let status = check(alloc, &words, &mut source, &mut sink);
-    let text = String::from_utf8(sink.bytes().to_vec(alloc)?)?;
-    Ok(Outcome { status, text })
-}
-
-/// Checks what `source` gives at an order, into a sink.
-pub fn check_into<S: Source>(
-    alloc: Global,
-    order: &str,
-    source: &mut S,
-    mut sink: MemSink,
-) -> Result<Outcome, Fail> {
-    let words = owned(alloc, &["mask", "ni", order])?;
-    let status = check(alloc, &words, source, &mut sink);
+    let status = check(rt, alloc, &words, source, &mut sink, &OpenGate, tallies);
     let text = String::from_utf8(sink.bytes().to_vec(alloc)?)?;
     Ok(Outcome { status, text })
 }
 
 /// Checks what `source` gives at an order, into a sink that takes all at once.
-pub fn check_source<S: Source>(
-    alloc: Global,
+pub fn check_source<R: AllocGlobal + Threads + Sync, S: Source>(
+    rt: &R,
     order: &str,
     source: &mut S,
 ) -> Result<Outcome, Fail> {
-    let sink = MemSink::make(alloc, 1000, 1000, Vec::new(alloc))?;
-    check_into(alloc, order, source, sink)
+    let sink = MemSink::make(rt.alloc(), 1000, 1000, Vec::new(rt.alloc()))?;
+    check_into(rt, order, source, sink)
 }
 
 /// Checks the bytes of a file at an order, into a sink that takes all at once.
-pub fn check_bytes(alloc: Global, order: &str, file: &[u8]) -> Result<Outcome, Fail> {
-    check_source(alloc, order, &mut SureSource::make(file.to_vec(alloc)?))
+pub fn check_bytes<R: AllocGlobal + Threads + Sync>(
+    rt: &R,
+    order: &str,
+    file: &[u8],
+) -> Result<Outcome, Fail> {
+    check_source(rt, order, &mut SureSource::make(file.to_vec(rt.alloc())?))
 }

@@ -25,9 +25,8 @@ const FORMS: [&[u8]; 10] = [
 
 #[test]
 fn forms_of_a_file_give_one_report(rt: HostRuntime) -> Result<(), Fail> {
-    let alloc = rt.alloc();
     for file in FORMS {
-        let outcome = check_bytes(alloc, "1", file)?;
+        let outcome = check_bytes(&rt, "1", file)?;
         assert_eq!(rt; outcome.status, Status::Yes);
         assert_eq!(rt; outcome.text.as_str(), REFRESH_REPORT);
     }

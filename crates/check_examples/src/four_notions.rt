@@ -1,6 +1,6 @@
 //! The notions on gadgets that tell them apart, and what is refused before any set is looked at.
 
-use crate::fixture::{REFRESH, SUM, check_as};
+use crate::fixture::{PAIR_REPORT, REFRESH, SUM, check_as};
 use mask_check::{NotFor, Opt, Status, UsageKind};
 use std::test::Fail;
 
@@ -16,12 +16,12 @@ const VERDICTS: [(&[&str], &str, Status, &str); 4] = [
         Status::Yes,
         "check sni 1\ngadget shares 2 inputs 1 outputs 1 randoms 1 variables 5\nspace items 5 size 1 tuples 6\nverdict yes\n",
     ),
-    // The two output probes sum to both shares, and no probe inside pays for them. There are 16 tuples.
+    // There are 16 tuples.
     (
         &["sni", "2", "--budget", "16"],
         REFRESH,
         Status::No,
-        "check sni 2\ngadget shares 2 inputs 1 outputs 1 randoms 1 variables 5\nspace items 5 size 2 tuples 16\nfail 2 d0 d1\nverdict no\n",
+        PAIR_REPORT,
     ),
     // The sum is simulated from both shares, which two probes are granted.
     (
@@ -42,7 +42,7 @@ const VERDICTS: [(&[&str], &str, Status, &str); 4] = [
 #[test]
 fn notions_tell_gadgets_apart(rt: HostRuntime) -> Result<(), Fail> {
     for (asked, file, status, report) in VERDICTS {
-        let outcome = check_as(rt.alloc(), asked, file)?;
+        let outcome = check_as(&rt, asked, file)?;
         assert_eq!(rt; outcome.status, status, "at {asked:?}");
         assert_eq!(rt; outcome.text.as_str(), report, "at {asked:?}");
     }
@@ -74,7 +74,7 @@ const REFUSALS: [(&[&str], &str, Status); 5] = [
 #[test]
 fn checks_that_are_refused_write_nothing(rt: HostRuntime) -> Result<(), Fail> {
     for (asked, file, status) in REFUSALS {
-        let outcome = check_as(rt.alloc(), asked, file)?;
+        let outcome = check_as(&rt, asked, file)?;
         assert_eq!(rt; outcome.status, status, "at {asked:?}");
         assert_eq!(rt; outcome.text.as_str(), "", "at {asked:?}");
     }

@@ -2,17 +2,13 @@
 
 ghost use Rattle.std.specs.Prelude.{◌<◌, All, IsTrue, length};
 
-use crate::fixture::REFRESH;
+use crate::fixture::{MULTIPLICATION, REFRESH};
 use gadget_tree::read_gadget;
 use mask_bytes::OutOfMemory;
 use needed::{Elimination, Scratch, needed};
 use std::alloc::Global;
 use std::test::Fail;
 use wire_table::WireTable;
-
-// The multiplication of Ishai, Sahai and Wagner: the variables are a0, a1, b0, b1, r01, p00, p01, p10, p11, u01, r10, c0 and c1.
-const MULTIPLICATION: &str =
-    "#SHARES 2\n#IN a b\n#RANDOMS r01\n#OUT c\np00 = a0 * b0\np01 = a0 * b1\np10 = a1 * b0\np11 = a1 * b1\nu01 = r01 + p01\nr10 = u01 + p10\nc0 = p00 + r01\nc1 = p11 + r10\n";
 
 // The multiplication of five shares, which has 85 variables.
 const FIVE_SHARES: &str =
@@ -24,7 +20,7 @@ const FIVE_SHARES: &str =
     c4 = a4 * b4 + (r04 + a0 * b4 + a4 * b0) + (r14 + a1 * b4 + a4 * b1) + (r24 + a2 * b4 + a4 * b2) + (r34 + a3 * b4 + a4 * b3)\n";
 
 // Gadgets, variables of each, and the shares that they need: bit 16 * input + index for each. Those of `REFRESH` are a0, a1,
-// r0, d0 and d1.
+// r0, d0 and d1, and those of `MULTIPLICATION` a0, a1, b0, b1, r01, p00, p01, p10, p11, u01, r10, c0 and c1.
 const LEAST: [(&str, &[u16], u64); 9] = [
     (REFRESH, &[3], 0),
     (REFRESH, &[3, 4], 3),

@@ -2,6 +2,8 @@
 #![tactic(auto)]
 
 #[cfg(test)]
+mod demonstrations;
+#[cfg(test)]
 mod fixture;
 #[cfg(test)]
 mod forms;
@@ -14,6 +16,8 @@ mod least_sets;
 #[cfg(test)]
 mod limits;
 #[cfg(test)]
+mod own_tallies;
+#[cfg(test)]
 mod products;
 #[cfg(test)]
 mod randoms;
@@ -22,10 +26,14 @@ mod read_faults;
 #[cfg(test)]
 mod standard;
 #[cfg(test)]
+mod tallying;
+#[cfg(test)]
 mod verdicts;
 #[cfg(test)]
 mod widths;
 #[cfg(test)]
 mod words;
+#[cfg(test)]
+mod workers;
 #[cfg(test)]
 mod write_faults;

@@ -17,7 +17,7 @@ fn filled_file(alloc: Global, length: usize) -> Result<Vec<u8>, AllocError> {
 #[test]
 fn longest_file_is_read(rt: HostRuntime) -> Result<(), Fail> {
     let alloc = rt.alloc();
-    let outcome = check_bytes(alloc, "1", &filled_file(alloc, 1_048_576)?)?;
+    let outcome = check_bytes(&rt, "1", &filled_file(alloc, 1_048_576)?)?;
     assert_eq!(rt; outcome.status, Status::Yes);
     assert_eq!(rt; outcome.text.as_str(), REFRESH_REPORT);
     Ok(())
@@ -26,7 +26,7 @@ fn longest_file_is_read(rt: HostRuntime) -> Result<(), Fail> {
 #[test]
 fn longer_file_is_too_long(rt: HostRuntime) -> Result<(), Fail> {
     let alloc = rt.alloc();
-    let outcome = check_bytes(alloc, "1", &filled_file(alloc, 1_048_577)?)?;
+    let outcome = check_bytes(&rt, "1", &filled_file(alloc, 1_048_577)?)?;
     assert_eq!(rt; outcome.status, Status::TooLong);
     assert_eq!(rt; outcome.text.as_str(), "");
     Ok(())
@@ -44,7 +44,7 @@ fn copies(alloc: Global, count: u16) -> Result<String, AllocError> {
 #[test]
 fn five_hundred_and_eleven_variables_are_read(rt: HostRuntime) -> Result<(), Fail> {
     let alloc = rt.alloc();
-    let outcome = check_bytes(alloc, "0", copies(alloc, 506)?.as_bytes())?;
+    let outcome = check_bytes(&rt, "0", copies(alloc, 506)?.as_bytes())?;
     assert_eq!(rt; outcome.status, Status::Yes);
     assert_eq!(rt;
         outcome.text.as_str(),
@@ -74,7 +74,7 @@ fn one_variable_more_is_refused(rt: HostRuntime) -> Result<(), Fail> {
     for (last, error) in LAST_LINES {
         let mut file = copies(alloc, 506)?;
         file.push_str(last)?;
-        let outcome = check_bytes(alloc, "0", file.as_bytes())?;
+        let outcome = check_bytes(&rt, "0", file.as_bytes())?;
         assert_eq!(rt; outcome.status, Status::File(error), "{last}");
         assert_eq!(rt; outcome.text.as_str(), "");
     }
@@ -97,7 +97,7 @@ fn nested(alloc: Global, name: &str, depth: usize, behind: &str) -> Result<Vec<u
 #[test]
 fn sixty_four_levels_of_parentheses_are_read(rt: HostRuntime) -> Result<(), Fail> {
     let alloc = rt.alloc();
-    let outcome = check_bytes(alloc, "1", &nested(alloc, "d0", 64, "")?)?;
+    let outcome = check_bytes(&rt, "1", &nested(alloc, "d0", 64, "")?)?;
     assert_eq!(rt; outcome.status, Status::Yes);
     assert_eq!(rt; outcome.text.as_str(), REFRESH_REPORT);
     Ok(())
@@ -119,7 +119,7 @@ fn sixty_five_levels_are_refused_before_anything_else_on_the_line(
 ) -> Result<(), Fail> {
     let alloc = rt.alloc();
     for (name, behind) in NESTED {
-        let outcome = check_bytes(alloc, "1", &nested(alloc, name, 65, behind)?)?;
+        let outcome = check_bytes(&rt, "1", &nested(alloc, name, 65, behind)?)?;
         let refused = Status::File(FileError::TooMany(What::Nesting));
         assert_eq!(rt; outcome.status, refused, "{name} {behind}");
         assert_eq!(rt; outcome.text.as_str(), "");

@@ -1,6 +1,6 @@
 //! Multiplications, and gadgets outside the verifier's class.
 
-use crate::fixture::check_source;
+use crate::fixture::{MULTIPLICATION, check_source};
 use mask_bytes::SureSource;
 use mask_check::Status;
 use std::test::Fail;
@@ -8,12 +8,11 @@ use wire_table::WireError;
 
 // Gadgets with products, and the report of each at order one.
 const MULTIPLICATIONS: [(&str, &str); 6] = [
-    // The multiplication of Ishai, Sahai and Wagner.
     (
-        "#SHARES 2\n#IN a b\n#RANDOMS r01\n#OUT c\np00 = a0 * b0\np01 = a0 * b1\np10 = a1 * b0\np11 = a1 * b1\nu01 = r01 + p01\nr10 = u01 + p10\nc0 = p00 + r01\nc1 = p11 + r10\n",
+        MULTIPLICATION,
         "check ni 1\ngadget shares 2 inputs 2 outputs 1 randoms 1 variables 13\nspace items 13 size 1 tuples 14\nverdict yes\n",
     ),
-    // The same, one line an output share.
+    // The same multiplication, one line an output share.
     (
         "#ORDER 1\r\n#SHARES 2\r\n#IN a b\r\n#RANDOMS r0\r\n#OUT c\r\nc0 = a0 * b0 + r0\r\nc1 = a1 * b1 + ((r0 + a0 * b1) + a1 * b0)\r\n",
         "check ni 1\ngadget shares 2 inputs 2 outputs 1 randoms 1 variables 13\nspace items 13 size 1 tuples 14\nverdict yes\n",
@@ -69,7 +68,7 @@ fn multiplications_are_checked(rt: HostRuntime) -> Result<(), Fail> {
     let alloc = rt.alloc();
     for (file, report) in MULTIPLICATIONS {
         let mut source = SureSource::make(file.as_bytes().to_vec(alloc)?);
-        let outcome = check_source(alloc, "1", &mut source)?;
+        let outcome = check_source(&rt, "1", &mut source)?;
         assert_eq!(rt; outcome.status, Status::Yes, "{file}");
         assert_eq!(rt; outcome.text.as_str(), report);
     }
@@ -81,7 +80,7 @@ fn gadgets_outside_the_class_are_refused(rt: HostRuntime) -> Result<(), Fail> {
     let alloc = rt.alloc();
     for (file, error) in REFUSED {
         let mut source = SureSource::make(file.as_bytes().to_vec(alloc)?);
-        let outcome = check_source(alloc, "1", &mut source)?;
+        let outcome = check_source(&rt, "1", &mut source)?;
         assert_eq!(rt; outcome.status, Status::Wires(error), "{file}");
         assert_eq!(rt; outcome.text.as_str(), "");
     }

@@ -21,7 +21,7 @@ fn random_hides_a_share_until_it_cancels(rt: HostRuntime) -> Result<(), Fail> {
     let alloc = rt.alloc();
     for (file, status, report) in REFRESHES {
         let mut source = SureSource::make(file.as_bytes().to_vec(alloc)?);
-        let outcome = check_source(alloc, "1", &mut source)?;
+        let outcome = check_source(&rt, "1", &mut source)?;
         assert_eq!(rt; outcome.status, status);
         assert_eq!(rt; outcome.text.as_str(), report);
     }

@@ -25,7 +25,7 @@ fn sum_of_both_shares_fails_at_order_one_alone(rt: HostRuntime) -> Result<(), Fa
     let alloc = rt.alloc();
     for (order, status, report) in VERDICTS {
         let mut source = SureSource::make(SUM.as_bytes().to_vec(alloc)?);
-        let outcome = check_source(alloc, order, &mut source)?;
+        let outcome = check_source(&rt, order, &mut source)?;
         assert_eq!(rt; outcome.status, status, "at order {order}");
         assert_eq!(rt; outcome.text.as_str(), report);
     }
@@ -38,7 +38,7 @@ fn single_bytes_in_and_out_change_nothing(rt: HostRuntime) -> Result<(), Fail> {
     for (order, status, report) in VERDICTS {
         let mut source = source_of(alloc, SUM, 1, &[])?;
         let sink = MemSink::make(alloc, 1000, 1, Vec::new(alloc))?;
-        let outcome = check_into(alloc, order, &mut source, sink)?;
+        let outcome = check_into(&rt, order, &mut source, sink)?;
         assert_eq!(rt; outcome.status, status, "at order {order}");
         assert_eq!(rt; outcome.text.as_str(), report);
     }

@@ -41,7 +41,7 @@ fn two_hundred_and_fifty_six_monomials_are_no_offence(rt: HostRuntime) -> Result
     let alloc = rt.alloc();
     let file = file(alloc, "")?;
     let mut source = SureSource::make(file.as_bytes().to_vec(alloc)?);
-    let outcome = check_source(alloc, "0", &mut source)?;
+    let outcome = check_source(&rt, "0", &mut source)?;
     assert_eq!(rt; outcome.status, Status::Yes);
     let report =
         "check ni 0\ngadget shares 16 inputs 3 outputs 1 randoms 0 variables 95\nspace items 95 size 0 tuples 1\nverdict yes\n";
@@ -54,7 +54,7 @@ fn one_monomial_more_is_refused(rt: HostRuntime) -> Result<(), Fail> {
     let alloc = rt.alloc();
     let file = file(alloc, "u = t + c0\n")?;
     let mut source = SureSource::make(file.as_bytes().to_vec(alloc)?);
-    let outcome = check_source(alloc, "0", &mut source)?;
+    let outcome = check_source(&rt, "0", &mut source)?;
     let refused = WireError::TooWide { var: 79, line: 5 };
     assert_eq!(rt; outcome.status, Status::Wires(refused));
     assert_eq!(rt; outcome.text.as_str(), "");

@@ -2,7 +2,7 @@
 
 use crate::fixture::{SUM, owned};
 use mask_bytes::{MemSink, SureSource, read_whole};
-use mask_check::{Status, UsageKind, check};
+use mask_check::{OpenGate, Status, UsageKind, check};
 use std::test::Fail;
 
 // Words, and what is amiss with them.
@@ -18,7 +18,15 @@ fn refused_words_read_and_write_nothing(rt: HostRuntime) -> Result<(), Fail> {
     for (words, kind) in REFUSED_WORDS {
         let mut source = SureSource::make(SUM.as_bytes().to_vec(alloc)?);
         let mut sink = MemSink::make(alloc, 1000, 1000, Vec::new(alloc))?;
-        let status = check(alloc, &owned(alloc, words)?, &mut source, &mut sink);
+        let status = check(
+            &rt,
+            alloc,
+            &owned(alloc, words)?,
+            &mut source,
+            &mut sink,
+            &OpenGate,
+            &mut Vec::new(alloc),
+        );
         assert_eq!(rt; status, Status::Usage(kind), "at {words:?}");
         assert!(rt; sink.bytes().is_empty());
         let left = read_whole(alloc, &mut source, 1000)?;

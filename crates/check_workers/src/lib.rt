@@ -1,9 +1,13 @@
-//! The minimal failing tuples of a query.
+//! The minimal failing tuples of a query, found by several workers.
 #![tactic(auto)]
 
+mod gate;
 mod pass;
+mod workers;
 
-pub use pass::{minimal, minimal_in};
+pub use gate::{Gate, OpenGate};
+pub use pass::cover_range;
+pub use workers::minimal;
 
 #[cfg(test)]
 mod tests;

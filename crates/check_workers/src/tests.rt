@@ -1,9 +1,11 @@
 //! Queries with a table of what fails, and their minimal failing tuples, worked out by hand.
 
+mod gates;
+
 ghost use Rattle.std.specs.Prelude.{◌≡◌, ◌≤◌, ◌↔◌, Any, IsTrue};
 ghost use Rattle.tuple_model.specs.Limits.{most_items, most_size};
 
-use crate::minimal;
+use crate::{OpenGate, minimal};
 use cover_core::{Query, Question};
 use mask_bytes::OutOfMemory;
 use std::alloc::Global;
@@ -82,22 +84,28 @@ const TABLES: [(u16, u8, &[&[u16]], &[&[u16]]); 5] = [
 ];
 
 #[test]
-fn one_pass_finds_the_minimal_failing_tuples(rt: HostRuntime) -> Result<(), Fail> {
+fn any_workers_and_blocks_find_the_minimal_failing_tuples(rt: HostRuntime) -> Result<(), Fail> {
     let alloc = rt.alloc();
     for (items, size, failing, want) in TABLES {
         assert!(rt; items <= 511);
         assert!(rt; size <= 6);
-        let found = minimal(
-            alloc,
-            &Table {
-                items,
-                size,
-                failing,
-            },
-        )?;
-        assert_eq!(rt; found.len(), want.len(), "{failing:?}");
-        for place in 0..found.len() {
-            assert_eq!(rt; found.tuple(place).items(), want[place], "{failing:?}");
+        let table = Table {
+            items,
+            size,
+            failing,
+        };
+        for workers in [1, 2, 3, 7, 64] {
+            for block in [1, 2, 3, 65536, u64::MAX] {
+                let found = minimal(&rt, alloc, &table, workers, block, 4, &OpenGate)?;
+                assert_eq!(rt; found.len(), want.len(), "{failing:?} {workers} {block}");
+                for place in 0..found.len() {
+                    assert_eq!(rt;
+                        found.tuple(place).items(),
+                        want[place],
+                        "{failing:?} {workers} {block}"
+                    );
+                }
+            }
         }
     }
     Ok(())

@@ -4,10 +4,14 @@
 #[cfg(test)]
 mod antichains;
 #[cfg(test)]
+mod coefficients;
+#[cfg(test)]
 mod kernels;
 #[cfg(test)]
 mod polynomials;
 #[cfg(test)]
 mod tables;
+#[cfg(test)]
+mod tallying;
 #[cfg(test)]
 mod tuples;

@@ -21,9 +21,10 @@ use Rattle.report.specs.declared.status.Status.{Status}
 use Rattle.report.specs.declared.status.Status.TheVariants.{Yes, No, Listed}
 use Rattle.mask_check.specs.declared.asked.Asked.{Asked}
 use Rattle.mask_check.specs.declared.asked.Asked.TheVariants.{Notion, Leaking}
-use Rattle.mask_check.specs.Questions.{Question, breaks, asked_by, questions, questions_by, items, FailsIn, IsAnswerTo, NoneFails}
-use Rattle.mask_check.specs.Report.{head_lines, leak_lines, answer_lines, last_line, are_empty, ending}
-use Rattle.mask_check.specs.Decisions.{event_question}
+use Rattle.mask_check.specs.Questions.{Question, breaks, asked_by, questions, questions_by, items, FailsIn, QuestionAnswer, IsAnswerTo, NoneFails}
+use Rattle.mask_check.specs.Report.{head_lines, leak_lines, answer_lines, greatest_lines, listing_by, are_empty, ending}
+use Rattle.mask_check.specs.Tallying.{Tallying, AreFed, tally_part}
+use Rattle.mask_check.specs.Decisions.{event_questions, notion_answer, AnswersUntallied}
 use Rattle.mask_check.specs.Ends.{Answers, IsTold}
 
 -- the items of the tuples of an answer are among those that it is of
@@ -54,74 +55,83 @@ none_listed Failing count size answer is h = elim (empty_or_some answer) [
 ]
 
 -- whether the one answer is empty
-are_empty-one : (answer : List (List ℕ)) (secure : Bool) → IsTrue secure ↔ (answer ≡ []) → secure ≡ are_empty (answer ∷ [])
+are_empty-one : (failing : List (List ℕ)) (secure : Bool) → IsTrue secure ↔ (failing ≡ []) → secure ≡ are_empty (notion_answer failing ∷ [])
 are_empty-one [] true h = refl
 are_empty-one [] false h = absurd (false≢true (h.1 refl))
 are_empty-one (t ∷ ts) true h = let e = h.0 refl in absurd (cc)
 are_empty-one (t ∷ ts) false h = refl
 
--- what stands between the head and the end
+-- a report that lists right answers
 module _ (s : Settings) (g : Circuit) (asks : Asked) (are : asked_by s.task ≡ asks) where
   of_questions : questions s g ≡ questions_by asks s g
   of_questions = ap (λ (a : Asked). questions_by a s g) are
 
-  pub Answers-from : (answers : List (List (List ℕ))) (status : Status) (text : List ℕ) → AllZip (IsAnswerTo s g) (questions_by asks s g) answers →
-      text ≡ head_lines s g ++ leak_lines asks s g ++ answer_lines (items s g) (questions_by asks s g) answers ++ last_line asks answers →
-      status ≡ ending asks answers → IsTold s g status → Answers s g status text
-  Answers-from answers status text minimal written ended told = record {
-    answers = answers;
-    minimal = subst (λ (qs : List Question). AllZip (IsAnswerTo s g) qs answers) (sym of_questions) minimal;
-    reported = written
-        ∙ ap (λ (a : Asked). head_lines s g ++ leak_lines a s g ++ answer_lines (items s g) (questions_by a s g) answers ++ last_line a answers) (sym are);
+  pub AnswersUntallied-from : (answers : List QuestionAnswer) (status : Status) (text : List ℕ) → AllZip (IsAnswerTo s g) (questions_by asks s g) answers →
+      text ≡ listing_by asks (questions_by asks s g) s g answers → status ≡ ending asks answers → IsTold s g status → AnswersUntallied s g answers status text
+  AnswersUntallied-from answers status text right written ended told = record {
+    right = subst (λ (qs : List Question). AllZip (IsAnswerTo s g) qs answers) (sym of_questions) right;
+    listed = written ∙ ap (λ (a : Asked). listing_by a (questions_by a s g) s g answers) (sym are);
     ends = ended ∙ ap (λ (a : Asked). ending a answers) (sym are);
     told = told;
   }
 
-module _ (s : Settings) (g : Circuit) (n : NotionKind) (are : asked_by s.task ≡ Notion n) (answer : List (List ℕ))
-    (is : IsAnswerTo s g (breaks n s.t) answer) where
+-- with the lines of the tallies it is the whole report
+pub Answers-from_untallied : (s : Settings) (g : Circuit) (tallies : Tallying) (answers : List QuestionAnswer) (status : Status) (text whole : List ℕ) →
+    AnswersUntallied s g answers status text → AreFed s answers tallies → whole ≡ text ++ tally_part s (items s g) tallies.after → Answers s g tallies status whole
+Answers-from_untallied s g tallies answers status text whole untallied fed added = record {
+  answers = answers;
+  right = untallied.right;
+  fed = fed;
+  reported = added ∙ ap (λ (xs : List ℕ). xs ++ tally_part s (items s g) tallies.after) untallied.listed;
+  ends = untallied.ends;
+  told = untallied.told;
+}
+
+module _ (s : Settings) (g : Circuit) (n : NotionKind) (are : asked_by s.task ≡ Notion n) (failing : List (List ℕ))
+    (is : IsAnswerTo s g (breaks n s.t) (notion_answer failing)) where
   -- no tuple fails where none is listed, and the other way round
-  NoneFails-from_empty : answer ≡ [] → NoneFails s g
+  NoneFails-from_empty : failing ≡ [] → NoneFails s g
   NoneFails-from_empty e q among tuple fits fails =
       let here : Contains (breaks n s.t ∷ []) q = subst (λ (qs : List Question). Contains qs q) (of_questions s g (Notion n) are) among in
       elim (Contains-cons_cases (breaks n s.t) [] q here) [
         | inl same ↦
-            none_fails-from_empty (FailsIn g (breaks n s.t)) (length (items s g)) s.size answer is e tuple fits
+            none_fails-from_empty (FailsIn g (breaks n s.t)) (length (items s g)) s.size failing is.minimal e tuple fits
             (subst (λ (p : Question). FailsIn g p tuple) (sym same) fails)
         | inr nowhere ↦ absurd (Contains-nil q nowhere)
       ]
 
-  empty-from_NoneFails : NoneFails s g → answer ≡ []
+  empty-from_NoneFails : NoneFails s g → failing ≡ []
   empty-from_NoneFails none =
-      none_listed (FailsIn g (breaks n s.t)) (length (items s g)) s.size answer is
+      none_listed (FailsIn g (breaks n s.t)) (length (items s g)) s.size failing is.minimal
       (none (breaks n s.t) (subst (λ (qs : List Question). Contains qs (breaks n s.t)) (sym (of_questions s g (Notion n) are)) (Contains-cons_head (breaks n s.t) [])))
 
   -- the status of a verdict
   abbrev status_by : Bool → Status
   status_by secure = if secure then Yes else No
 
-  told : (secure : Bool) → IsTrue secure ↔ (answer ≡ []) → IsTold s g (status_by secure)
+  told : (secure : Bool) → IsTrue secure ↔ (failing ≡ []) → IsTold s g (status_by secure)
   told true h = NoneFails-from_empty (h.0 refl)
   told false h = λ none. false≢true (h.1 (empty-from_NoneFails none))
 
   -- the verdict and the report of the one answer
-  pub Answers-verdict : (secure : Bool) (status : Status) (text : List ℕ) → IsTrue secure ↔ (answer ≡ []) → status ≡ status_by secure →
-      text ≡ head_lines s g ++ fail_lines (items s g) answer ++ verdict secure → Answers s g status text
-  Answers-verdict secure status text empty ended written =
-      let one : secure ≡ are_empty (answer ∷ []) = are_empty-one answer secure empty in
-      Answers-from s g (Notion n) are (answer ∷ []) status text (is, tt)
+  pub AnswersUntallied-verdict : (secure : Bool) (status : Status) (text : List ℕ) → IsTrue secure ↔ (failing ≡ []) → status ≡ status_by secure →
+      text ≡ head_lines s g ++ fail_lines (items s g) failing ++ verdict secure → AnswersUntallied s g (notion_answer failing ∷ []) status text
+  AnswersUntallied-verdict secure status text empty ended written =
+      let one : secure ≡ are_empty (notion_answer failing ∷ []) = are_empty-one failing secure empty in
+      let lines : fail_lines (items s g) failing ≡ answer_lines (items s g) (breaks n s.t ∷ []) (notion_answer failing ∷ []) =
+      sym (append-nil (fail_lines (items s g) failing)) ∙ sym (append-nil (fail_lines (items s g) failing ++ [])) in
+      AnswersUntallied-from s g (Notion n) are (notion_answer failing ∷ []) status text (is, tt)
       (written
-      ∙ ap (λ (xs : List ℕ). xs ++ fail_lines (items s g) answer ++ verdict secure) (sym (append-nil (head_lines s g)))
-      ∙ ap (λ (xs : List ℕ). head_lines s g ++ [] ++ xs ++ verdict secure) (sym (append-nil (fail_lines (items s g) answer)))
-      ∙ ap (λ (yes_ : Bool). head_lines s g ++ [] ++ (fail_lines (items s g) answer ++ []) ++ verdict yes_) one)
+      ∙ ap (λ (xs : List ℕ). xs ++ fail_lines (items s g) failing ++ verdict secure) (sym (append-nil (head_lines s g)))
+      ∙ ap (λ (xs : List ℕ). head_lines s g ++ [] ++ xs ++ verdict secure) lines
+      ∙ ap (λ (yes_ : Bool). head_lines s g ++ [] ++ answer_lines (items s g) (breaks n s.t ∷ []) (notion_answer failing ∷ []) ++ verdict yes_) one)
       (ended ∙ ap status_by one)
       (subst (IsTold s g) (sym ended) (told secure empty))
 
--- the list of random probing
-pub Answers-listed : (s : Settings) (g : Circuit) (kind : Rp) → asked_by s.task ≡ Leaking kind → (answers : List (List (List ℕ))) (text : List ℕ) →
-    AllZip (IsAnswerTo s g) (map (event_question s) (events_of kind g s.t)) answers →
-    text ≡ head_lines s g ++ leak_lines (Leaking kind) s g ++ answer_lines (items s g) (map (event_question s) (events_of kind g s.t)) answers →
-    Answers s g Listed text
-Answers-listed s g kind are answers text minimal written =
-    Answers-from s g (Leaking kind) are answers Listed text minimal
-    (written ∙ sym (append-nil (head_lines s g ++ leak_lines (Leaking kind) s g ++ answer_lines (items s g) (map (event_question s) (events_of kind g s.t)) answers)))
-    refl tt
+-- the answers of random probing
+pub AnswersUntallied-listed : (s : Settings) (g : Circuit) (kind : Rp) → asked_by s.task ≡ Leaking kind → (answers : List QuestionAnswer) (text : List ℕ) →
+    AllZip (IsAnswerTo s g) (event_questions s (events_of kind g s.t)) answers →
+    text ≡ head_lines s g ++ leak_lines (Leaking kind) s g ++ answer_lines (items s g) (event_questions s (events_of kind g s.t)) answers
+    ++ greatest_lines (event_questions s (events_of kind g s.t)) answers →
+    AnswersUntallied s g answers Listed text
+AnswersUntallied-listed s g kind are answers text right written = AnswersUntallied-from s g (Leaking kind) are answers Listed text right written refl tt

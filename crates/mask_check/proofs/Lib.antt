@@ -3,5 +3,9 @@ pub mod Asking
 pub mod Answering
 pub mod Suited
 pub mod Listing
-pub mod Completions
+pub mod Demos
 pub mod AfterReading
+pub mod Completions
+pub mod Feeding
+pub mod GreatestNumbers
+pub mod EventLines

@@ -17,6 +17,7 @@ use Rattle.mask_check.specs.declared.asked.Asked.{Asked}
 use Rattle.mask_check.specs.declared.asked.Asked.TheVariants.{Notion, Leaking}
 use Rattle.mask_check.specs.Questions.{asked_by, questions_by, IsUnsuited, IsUnsuitedBy, IsSuited, tuple_count, work}
 use Rattle.mask_check.specs.Causes.{status_of_events}
+use Rattle.mask_check.specs.Tallying.{Tallying, AreKept}
 use Rattle.mask_check.specs.Decisions.{Declines, event_question}
 
 module _ (s : Settings) (g : Circuit) (asks : Asked) (are : asked_by s.task ≡ asks) where
@@ -61,12 +62,12 @@ work-leaking s g kind are =
     ∙ ap (λ (n : ℕ). n * tuple_count s g) (length-map (events_of kind g s.t) (event_question s))
 
 -- why there are no events is why the check is refused
-pub Declines-events : (s : Settings) (g : Circuit) (kind : Rp) → asked_by s.task ≡ Leaking kind → (error : RpError) →
-    (error ≢ errors.OutOfMemory → refusal kind g s.t ≡ Some error) → Declines s g (status_of_events error)
-Declines-events s g kind are errors.ManyInputs h = IsUnsuited-from s g (Leaking kind) are ManyInputs (h (λ e. absurd (cc)))
-Declines-events s g kind are errors.OrderTooLarge h = IsUnsuited-from s g (Leaking kind) are OrderTooLarge (h (λ e. absurd (cc)))
-Declines-events s g kind are (errors.ManyEvents count) h = IsUnsuited-from s g (Leaking kind) are (ManyEvents count) (h (λ e. absurd (cc)))
-Declines-events s g kind are errors.OutOfMemory h = tt
+pub Declines-events : (s : Settings) (g : Circuit) (kind : Rp) → asked_by s.task ≡ Leaking kind → (tallies : Tallying) → AreKept tallies → (error : RpError) →
+    (error ≢ errors.OutOfMemory → refusal kind g s.t ≡ Some error) → Declines s g tallies (status_of_events error)
+Declines-events s g kind are tallies kept errors.ManyInputs h = (IsUnsuited-from s g (Leaking kind) are ManyInputs (h (λ e. absurd (cc))), kept)
+Declines-events s g kind are tallies kept errors.OrderTooLarge h = (IsUnsuited-from s g (Leaking kind) are OrderTooLarge (h (λ e. absurd (cc))), kept)
+Declines-events s g kind are tallies kept (errors.ManyEvents count) h = (IsUnsuited-from s g (Leaking kind) are (ManyEvents count) (h (λ e. absurd (cc))), kept)
+Declines-events s g kind are tallies kept errors.OutOfMemory h = inl kept
 
 -- where nothing speaks against them, the events are few
 many_or_few : (rp : Rp) (g : Circuit) (t : ℕ) (inputs large : Bool) → (many : Bool) →

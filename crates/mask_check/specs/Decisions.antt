@@ -1,42 +1,94 @@
 -- What a check answers of a gadget, and why it may refuse it.
-use Rattle.std.specs.Prelude.{◌≡◌, ◌≤◌, ℕ, List, ◌++◌, map}
+use Rattle.std.specs.Prelude.{◌≡◌, ◌≤◌, ◌+◌, ◌⊎◌, ℕ, true, false, List, [], map, All, Option, Some, None}
 use Rattle.std.specs.List.{AllZip}
 use Rattle.gadget_model.specs.Circuit.{Circuit}
+use Rattle.gadget_text.specs.Limits.{most_file_bytes}
+use Rattle.gadget_maker.specs.Limits.{least_demo_shares, most_demo_shares}
 use Rattle.tuple_model.specs.Limits.{most_size}
+use Rattle.mask_terms.specs.Tasks.{is_demo}
 use Rattle.wire_table.specs.Items.{Item}
 use Rattle.notions.specs.declared.notion.Notion.{Notion as NotionKind}
 use Rattle.rp_events.specs.Events.{Event}
 use Rattle.rp_events.specs.Inside.{IsSmallWhich}
 use Rattle.rp_events.specs.declared.rp.Rp.{Rp}
 use Rattle.mask_words.specs.declared.answer.Settings.{Settings}
-use Rattle.report.specs.Report.{event_line, fail_lines}
+use Rattle.report.specs.Report.{AreAmong}
 use Rattle.report.specs.declared.status.Status.{Status}
-use Rattle.report.specs.declared.status.Status.TheVariants.{NotForGadget, Budget, OutOfMemory}
+use Rattle.report.specs.declared.status.Status.TheVariants.{NotForGadget, Budget, TooLong, ReadFault, OutOfMemory}
 use Rattle.mask_check.specs.declared.answer.Answer.{Answer}
+use Rattle.mask_check.specs.declared.answer.QuestionAnswer as code
 use Rattle.mask_check.specs.declared.asked.Asked.TheVariants.{Notion, Leaking}
-use Rattle.mask_check.specs.Questions.{asked_by, Question, breaks, fails_for, items, tuple_count, IsUnsuited, IsAnswerTo}
-use Rattle.mask_check.specs.Report.{answer_lines}
-use Rattle.mask_check.specs.Ends.{IsFeasible, IsOverBudget, Answers}
+use Rattle.mask_check.specs.Demonstrations.{made_file}
+use Rattle.mask_check.specs.Questions.{asked_by, questions, Question, breaks, fails_for, items, tuple_count, IsUnsuited}
+use Rattle.mask_check.specs.Questions.{QuestionAnswer, IsAnswerTo}
+use Rattle.mask_check.specs.Report.{ending, greater_each, listing}
+use Rattle.mask_check.specs.Tallying.{Tallying, AreKept}
+use Rattle.mask_check.specs.Ends.{Answers, FeedsAnswers, IsFeasible, IsOverBudget, IsTold}
+use Rattle.mask_check.specs.Ends.{Reading, HasFile, ReadsNothing, ReadsTooMuch, CountsReadFault, TakesAtMost}
 
--- what holds of all settings of a command line
+-- what holds of all checks that the settings of a command line ask for
 pub record IsReady (s : Settings) : Type 0 where
   pub small : s.size ≤ most_size
   pub notion_size : (n : NotionKind) → asked_by s.task ≡ Notion n → s.size ≡ s.t
+  pub some_workers : 1 ≤ s.workers
+  pub some_block : 1 ≤ s.block
+  pub check : is_demo s.task ≡ false
+
+-- a demonstration is of as many shares as one may have
+abbrev pub HasDemoShares : Settings → Type 0
+HasDemoShares s = is_demo s.task ≡ true → (least_demo_shares ≤ s.t) × (s.t ≤ most_demo_shares)
+
+-- nothing was read; or the check reads its file, and no more was read than a file may have and one byte
+abbrev pub ReadsLittleOf : {S : Type 0} → Settings → Reading S → Type 0
+ReadsLittleOf s reading =
+    ReadsNothing reading ⊎ ((made_file s ≡ None) × TakesAtMost reading (most_file_bytes + 1))
+
+-- the file of a check, for which little was read
+abbrev pub GetsFile : {S : Type 0} → Settings → Reading S → List ℕ → Type 0
+GetsFile s reading bytes = HasFile s reading bytes × ReadsLittleOf s reading
+
+-- why a check has no file: reading failed, or gave too much, or memory ran out
+abbrev pub LacksFile : {S : Type 0} → Settings → Reading S → Status → Type 0
+LacksFile s reading TooLong = (made_file s ≡ None) × ReadsTooMuch reading
+LacksFile s reading ReadFault =
+    (made_file s ≡ None) × CountsReadFault reading × TakesAtMost reading most_file_bytes
+LacksFile s reading OutOfMemory = ReadsLittleOf s reading
+LacksFile s reading status = ⊥
 
 -- the check is one of random probing
 abbrev pub IsLeaking : Settings → Type 0
 IsLeaking s = (kind : Rp) × (asked_by s.task ≡ Leaking kind)
 
 -- the check can be done, and this is its answer
-abbrev pub Decides : Settings → Circuit → Answer → Type 0
-Decides s g answer = IsFeasible s g × Answers s g answer.status answer.report
+abbrev pub Decides : Settings → Circuit → Tallying → Answer → Type 0
+Decides s g tallies answer = IsFeasible s g × Answers s g tallies answer.status answer.report
+
+-- no tally was fed, or each was fed all failing tuples of the check, which can be done
+abbrev pub FeedsAllOrNoneOf : Settings → Circuit → Tallying → Type 0
+FeedsAllOrNoneOf s g tallies = AreKept tallies ⊎ (IsFeasible s g × FeedsAnswers s g tallies)
 
 -- the check of a gadget is refused: the gadget doesn't suit it, the work is over the budget, or memory ran out
-abbrev pub Declines : Settings → Circuit → Status → Type 0
-Declines s g (NotForGadget why) = IsUnsuited s g why
-Declines s g (Budget count) = IsOverBudget s g count
-Declines s g OutOfMemory = Unit {0}
-Declines s g status = ⊥
+abbrev pub Declines : Settings → Circuit → Tallying → Status → Type 0
+Declines s g tallies (NotForGadget why) = IsUnsuited s g why × AreKept tallies
+Declines s g tallies (Budget count) = IsOverBudget s g count × AreKept tallies
+Declines s g tallies OutOfMemory = FeedsAllOrNoneOf s g tallies
+Declines s g tallies status = ⊥
+
+-- The text lists the right answers to all questions, and the status is theirs; of tallies nothing is said.
+pub record AnswersUntallied
+    (s : Settings) (g : Circuit) (answers : List QuestionAnswer) (status : Status) (text : List ℕ) : Type 0 where
+  pub right : AllZip (IsAnswerTo s g) (questions s g) answers
+  pub listed : text ≡ listing s g answers
+  pub ends : status ≡ ending (asked_by s.task) answers
+  pub told : IsTold s g status
+
+-- an answer as its question's, of code
+abbrev pub answer_of : code.QuestionAnswer → QuestionAnswer
+answer_of answer = record { failing = answer.failing; coefficients = answer.coefficients.items }
+
+-- the answer to the question of a notion, which has no coefficients
+abbrev pub notion_answer : List (List ℕ) → QuestionAnswer
+notion_answer failing = record { failing = failing; coefficients = [] }
 
 -- A notion is asked for, these are the check's items, so many tuples of them are asked about, and these are the minimal
 -- ones that fail.
@@ -46,7 +98,7 @@ pub record IsNotionAnswer
   pub asks : asked_by s.task ≡ Notion notion
   pub items_are : of_items ≡ items s g
   pub counted : count ≡ tuple_count s g
-  pub minimal : IsAnswerTo s g (breaks notion s.t) failing
+  pub right : IsAnswerTo s g (breaks notion s.t) (notion_answer failing)
 
 -- the input that an event asks of is one that a gadget may have
 abbrev pub HasSmallWhich : Event → Type 0
@@ -56,14 +108,19 @@ HasSmallWhich event = IsSmallWhich event.which
 abbrev pub event_question : Settings → Event → Question
 event_question s event = fails_for event s.t s.wires
 
--- to a report of a check with these items were added the name of an event and its minimal failing tuples
-pub record AddsEvent (s : Settings) (g : Circuit) (event : Event) (before after : List ℕ) : Type 0 where
-  pub failing : List (List ℕ)
-  pub minimal : IsAnswerTo s g (event_question s event) failing
-  pub added : after ≡ before ++ event_line event.name ++ fail_lines (items s g) failing
+-- the questions of events
+abbrev pub event_questions : Settings → List Event → List Question
+event_questions s events = map (event_question s) events
 
--- to a report were added the answers to the questions of these events
-pub record AddsEvents (s : Settings) (g : Circuit) (events : List Event) (before after : List ℕ) : Type 0 where
-  pub answers : List (List (List ℕ))
-  pub minimal : AllZip (IsAnswerTo s g) (map (event_question s) events) answers
-  pub added : after ≡ before ++ answer_lines (items s g) (map (event_question s) events) answers
+-- these are the right answers to the questions of these events
+abbrev pub AreAnswersTo : Settings → Circuit → List Event → List QuestionAnswer → Type 0
+AreAnswersTo s g events answers = AllZip (IsAnswerTo s g) (event_questions s events) answers
+
+-- the tuples of an answer are of these items
+abbrev pub IsOfItems : List Item → QuestionAnswer → Type 0
+IsOfItems of_items answer = All (AreAmong of_items) answer.failing
+
+-- the greatest numbers of some lists, where there were any, with these also
+abbrev pub greatest_with : Option (List ℕ) → List ℕ → List ℕ
+greatest_with None numbers = numbers
+greatest_with (Some found) numbers = greater_each found numbers

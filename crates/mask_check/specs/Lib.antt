@@ -1,4 +1,6 @@
+pub mod Demonstrations
 pub mod Questions
+pub mod Tallying
 pub mod Report
 pub mod Ends
 pub mod Causes

@@ -8,6 +8,7 @@ use Rattle.mask_terms.specs.declared.task.Task.TheVariants as task
 use Rattle.mask_terms.specs.declared.wires.Wires.{Wires}
 use Rattle.wire_table.specs.Items.{Item}
 use Rattle.wire_table.specs.Uses.{wire_items}
+use Rattle.wire_counts.specs.Coefficients.{AreCoefficients, weights_of}
 use Rattle.notions.specs.Items.{items_of}
 use Rattle.notions.specs.Notions.{Fails, HasTooManyOutputs}
 use Rattle.notions.specs.declared.notion.Notion.{Notion as NotionKind}
@@ -30,6 +31,8 @@ asked_by task.Sni = Notion notion.Sni
 asked_by task.Pini = Notion notion.Pini
 asked_by task.Rpc = Leaking rp.Rpc
 asked_by task.Rpe = Leaking rp.Rpe
+asked_by task.Demo = Notion notion.Sni
+asked_by task.DemoRefresh = Notion notion.Sni
 
 -- A question: which tuples fail. Which break a notion of an order; or which tuples of leaking wires fail for an event
 -- of an order.
@@ -83,9 +86,22 @@ tuple_count s g = length (tuples (length (items s g)) s.size)
 abbrev pub work : Settings → Circuit → ℕ
 work s g = length (questions s g) * tuple_count s g
 
--- the answer to a question: its minimal failing tuples
-abbrev pub IsAnswerTo : Settings → Circuit → Question → List (List ℕ) → Type 0
-IsAnswerTo s g question answer = IsAnswer (FailsIn g question) (length (items s g)) s.size answer
+-- what is answered to a question: the failing tuples, and numbers of sets of wires
+pub record QuestionAnswer : Type 0 where
+  pub failing : List (List ℕ)
+  pub coefficients : List ℕ
+
+-- The coefficients of a question: of an event, for each size, the number of sets of so many wires that fail; of a notion
+-- there are none.
+abbrev pub AreCoefficientsOf : Settings → Circuit → Question → List ℕ → Type 0
+AreCoefficientsOf s g (breaks n t) coefficients = coefficients ≡ []
+AreCoefficientsOf s g (fails_for event t wires) coefficients =
+    AreCoefficients (FailsIn g (fails_for event t wires)) (weights_of (items s g)) s.size coefficients
+
+-- The answer to a question: its minimal failing tuples, and its coefficients.
+pub record IsAnswerTo (s : Settings) (g : Circuit) (question : Question) (answer : QuestionAnswer) : Type 0 where
+  pub minimal : IsAnswer (FailsIn g question) (length (items s g)) s.size answer.failing
+  pub counted : AreCoefficientsOf s g question answer.coefficients
 
 -- no tuple fails that the check asks about
 abbrev pub NoneFails : Settings → Circuit → Type 0

@@ -27,5 +27,6 @@ pub(crate) fn asked_by(task: Task) -> Asked
         Task::Pini => Asked::Notion(Notion::Pini),
         Task::Rpc => Asked::Leaking(Rp::Rpc),
         Task::Rpe => Asked::Leaking(Rp::Rpe),
+        Task::Demo | Task::DemoRefresh => Asked::Notion(Notion::Sni),
     }
 }

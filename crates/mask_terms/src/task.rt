@@ -1,7 +1,7 @@
 //! What a gadget is checked for.
 
 ghost use Rattle.std.specs.Prelude.{◌≡◌};
-ghost use Rattle.mask_terms.specs.Tasks.{leaks, task_named, task_word};
+ghost use Rattle.mask_terms.specs.Tasks.{is_demo, leaks, task_named, task_word};
 
 /// What a gadget is checked for.
 #[derive(Clone, Copy, Debug, PartialEq, Eq, Drop)]
@@ -18,6 +18,10 @@ pub enum Task {
     Rpc,
     /// Random probing expandability.
     Rpe,
+    /// Strong non-interference of a multiplication that the program makes itself.
+    Demo,
+    /// Strong non-interference of a refreshing of shares that the program makes itself.
+    DemoRefresh,
 }
 
 impl Task {
@@ -32,6 +36,8 @@ impl Task {
             Task::Pini => "pini",
             Task::Rpc => "rpc",
             Task::Rpe => "rpe",
+            Task::Demo => "demo",
+            Task::DemoRefresh => "demo-refresh",
         }
     }
 
@@ -46,6 +52,8 @@ impl Task {
             "pini" => Some(Task::Pini),
             "rpc" => Some(Task::Rpc),
             "rpe" => Some(Task::Rpe),
+            "demo" => Some(Task::Demo),
+            "demo-refresh" => Some(Task::DemoRefresh),
             _ => None,
         }
     }
@@ -55,5 +63,12 @@ impl Task {
         ensures { result ≡ leaks self }
     {
         matches!(self, Task::Rpc | Task::Rpe)
+    }
+
+    /// Whether the task is a demonstration, which reads no file and checks a gadget that the program makes.
+    pub fn is_demo(self) -> bool
+        ensures { result ≡ is_demo self }
+    {
+        matches!(self, Task::Demo | Task::DemoRefresh)
     }
 }

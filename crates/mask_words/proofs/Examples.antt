@@ -3,7 +3,7 @@ use Rattle.std.proofs.Common.{refl, codes, true, false, List, [], ◌∷◌, ◌
 use Rattle.std.specs.Prelude.{Ok, Err}
 use Rattle.mask_terms.specs.declared.opt.Opt.TheVariants as opt
 use Rattle.mask_terms.specs.declared.task.Task.{Task}
-use Rattle.mask_terms.specs.declared.task.Task.TheVariants.{Ni, Tni, Sni, Pini, Rpc, Rpe}
+use Rattle.mask_terms.specs.declared.task.Task.TheVariants.{Ni, Tni, Sni, Pini, Rpc, Rpe, Demo, DemoRefresh}
 use Rattle.mask_terms.specs.declared.usage_kind.UsageKind.{UsageKind}
 use Rattle.mask_terms.specs.declared.usage_kind.UsageKind.TheVariants as kind
 use Rattle.mask_terms.specs.declared.wires.Wires.TheVariants.{Copies, Plain}
@@ -157,6 +157,30 @@ too_great_a_size_of_tuples : AreWrong (codes "rpc" ∷ codes "1" ∷ codes "--si
 unfolding items_from
 too_great_a_size_of_tuples = refl
 
+-- ---- demonstrations
+
+the_fewest_shares_of_a_demonstration : Ask (codes "demo" ∷ codes "2" ∷ []) (record (plain Demo 2) { size = 1 })
+unfolding items_from
+the_fewest_shares_of_a_demonstration = refl
+
+the_most_shares_of_a_demonstration :
+    Ask (codes "demo-refresh" ∷ codes "--block=1" ∷ codes "5" ∷ [])
+    (record (plain DemoRefresh 5) { size = 4; block = 1 })
+unfolding items_from
+the_most_shares_of_a_demonstration = refl
+
+too_few_shares_of_a_demonstration : AreWrong (codes "demo" ∷ codes "1" ∷ []) kind.Argument
+unfolding items_from
+too_few_shares_of_a_demonstration = refl
+
+too_many_shares_of_a_demonstration : AreWrong (codes "demo-refresh" ∷ codes "6" ∷ []) kind.Argument
+unfolding items_from
+too_many_shares_of_a_demonstration = refl
+
+a_size_of_a_demonstration : settings_of (codes "demo" ∷ codes "3" ∷ codes "--size=2" ∷ []) ≡ Err SizeNotUsed
+unfolding items_from
+a_size_of_a_demonstration = refl
+
 -- ---- the task and its argument
 
 an_unknown_task : AreWrong (codes "xni" ∷ codes "1" ∷ []) kind.Task
@@ -167,9 +191,9 @@ a_task_in_capitals : AreWrong (codes "NI" ∷ codes "1" ∷ []) kind.Task
 unfolding items_from
 a_task_in_capitals = refl
 
-no_task_demo : AreWrong (codes "demo" ∷ codes "2" ∷ []) kind.Task
+part_of_the_word_of_a_task : AreWrong (codes "demo-" ∷ codes "2" ∷ []) kind.Task
 unfolding items_from
-no_task_demo = refl
+part_of_the_word_of_a_task = refl
 
 the_task_first : AreWrong (codes "xni" ∷ codes "7" ∷ codes "--workers=0" ∷ []) kind.Task
 unfolding items_from

@@ -6,7 +6,7 @@ use mask_terms::{Task, UsageKind, Wires};
 #[derive(Clone, Copy, Debug, PartialEq, Eq, Drop)]
 pub struct Settings {
     pub task: Task,
-    /// The task's order.
+    /// The task's order; a demonstration's number of shares.
     pub t: u8,
     /// The greatest size of a tuple.
     pub size: u8,

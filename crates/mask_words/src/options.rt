@@ -98,8 +98,9 @@ pub(crate) const WORDS: NumberOption = NumberOption {
 
 /// The number that an option has: its text's, or the default where it isn't given.
 pub(crate) fn value(option: NumberOption, text: Option<&str>) -> Result<u64, WordsError>
-    requires { option.default ≤ option.most }
-    ensures bounds { IfOk result (λ n. n ≤ option.most) }
+    requires some { option.least ≤ option.default }
+    requires few { option.default ≤ option.most }
+    ensures bounds { IfOk result (λ n. (option.least ≤ n) × (n ≤ option.most)) }
     ensures answer { result ≡ value_by option (option_map (λ s. s.now) text.entry) }
 {
     let Some(text) = text else {

@@ -1,17 +1,31 @@
 //! From the words of a command line to settings.
 
-ghost use Rattle.std.specs.Prelude.{◌≡◌, ◌≤◌, IfOk, false, map, drop, option_map, string_bytes};
-ghost use Rattle.mask_terms.specs.Tasks.{leaks};
-ghost use Rattle.mask_words.specs.Options.{most_order};
-ghost use Rattle.mask_words.specs.Settings.{AgreesWith, greatest_order, settings_from, settings_of, wires_by};
+ghost use Rattle.std.specs.Prelude.{◌≡◌, ◌≤◌, ◌+◌, IfOk, true, false, map, drop, option_map, string_bytes};
+ghost use Rattle.gadget_maker.specs.Limits.{least_demo_shares, most_demo_shares};
+ghost use Rattle.mask_terms.specs.Tasks.{is_demo, leaks};
+ghost use Rattle.mask_words.specs.Options.{least_block, least_workers, most_order, most_workers};
+ghost use Rattle.mask_words.specs.Settings.{AgreesWith, least_order, greatest_order, size_of};
+ghost use Rattle.mask_words.specs.Settings.{settings_from, settings_of, wires_by};
 ghost use Rattle.mask_words.specs.Shown.{shown};
 
 use crate::answer::{Settings, WordsError};
 use crate::given::{Given, read};
 use crate::number::number_between;
 use crate::options::{BLOCK, BUDGET, MOST_LEAKING_ORDER, MOST_ORDER, SIZE, WORDS, WORKERS, value};
+use gadget_maker::{LEAST_DEMO_SHARES, MOST_DEMO_SHARES};
 use mask_terms::{Opt, Task, UsageKind, Wires};
 use std::alloc::Global;
+
+// The least order that a task takes.
+fn least_order(task: Task) -> u64
+    ensures { result ≡ least_order task }
+{
+    if task.is_demo() {
+        u64::from(LEAST_DEMO_SHARES)
+    } else {
+        0
+    }
+}
 
 // The greatest order that a task takes.
 fn greatest_order(task: Task) -> u64
@@ -19,8 +33,24 @@ fn greatest_order(task: Task) -> u64
 {
     if task.leaks() {
         MOST_LEAKING_ORDER
+    } else if task.is_demo() {
+        u64::from(MOST_DEMO_SHARES)
     } else {
         MOST_ORDER
+    }
+}
+
+// The greatest size of a tuple, where `given` stands for `--size`.
+fn size_of(task: Task, t: u64, given: u64) -> u64
+    requires { least_order task ≤ t }
+    ensures { result ≡ size_of task t given }
+{
+    if task.leaks() {
+        given
+    } else if task.is_demo() {
+        t - 1
+    } else {
+        t
     }
 }
 
@@ -38,13 +68,17 @@ fn wires(text: Option<&str>) -> Result<Wires, WordsError>
 fn settings_from(given: &Given) -> Result<Settings, WordsError>
     ensures settings { result ≡ settings_from (shown given.now) }
     ensures order { IfOk result (λ s. s.t ≤ greatest_order s.task) }
-    ensures size { IfOk result (λ s. leaks s.task ≡ false → s.size ≡ s.t) }
+    ensures shares { IfOk result (λ s. is_demo s.task ≡ true → (least_demo_shares ≤ s.t) × (s.t ≤ most_demo_shares)) }
+    ensures size { IfOk result (λ s. leaks s.task ≡ false → is_demo s.task ≡ false → s.size ≡ s.t) }
+    ensures demo_size { IfOk result (λ s. is_demo s.task ≡ true → s.size + 1 ≡ s.t) }
     ensures small { IfOk result (λ s. s.size ≤ most_order) }
+    ensures some_workers { IfOk result (λ s. (least_workers ≤ s.workers) × (s.workers ≤ most_workers)) }
+    ensures some_block { IfOk result (λ s. least_block ≤ s.block) }
 {
     let Some(task) = Task::named(given.task) else {
         return Err(WordsError::Usage(UsageKind::Task));
     };
-    let Some(t) = number_between(given.argument, 0, greatest_order(task)) else {
+    let Some(t) = number_between(given.argument, least_order(task), greatest_order(task)) else {
         return Err(WordsError::Usage(UsageKind::Argument));
     };
     let size = value(SIZE, given.size)?;
@@ -56,11 +90,10 @@ fn settings_from(given: &Given) -> Result<Settings, WordsError>
     if !task.leaks() && (given.size.is_some() || given.wires.is_some()) {
         return Err(WordsError::SizeNotUsed);
     }
-    let size = if task.leaks() { size } else { t };
     Ok(Settings {
         task,
         t: t as u8,
-        size: size as u8,
+        size: size_of(task, t, size) as u8,
         workers: workers as u16,
         block,
         budget,
@@ -76,8 +109,12 @@ fn settings_from(given: &Given) -> Result<Settings, WordsError>
 pub fn settings(alloc: Global, words: &[String]) -> Result<Settings, WordsError>
     ensures settings { AgreesWith (settings_of (drop 1 (map string_bytes words.now))) result }
     ensures order { IfOk result (λ s. s.t ≤ greatest_order s.task) }
-    ensures size { IfOk result (λ s. leaks s.task ≡ false → s.size ≡ s.t) }
+    ensures shares { IfOk result (λ s. is_demo s.task ≡ true → (least_demo_shares ≤ s.t) × (s.t ≤ most_demo_shares)) }
+    ensures size { IfOk result (λ s. leaks s.task ≡ false → is_demo s.task ≡ false → s.size ≡ s.t) }
+    ensures demo_size { IfOk result (λ s. is_demo s.task ≡ true → s.size + 1 ≡ s.t) }
     ensures small { IfOk result (λ s. s.size ≤ most_order) }
+    ensures some_workers { IfOk result (λ s. (least_workers ≤ s.workers) × (s.workers ≤ most_workers)) }
+    ensures some_block { IfOk result (λ s. least_block ≤ s.block) }
 {
     let Ok(read) = read(alloc, words) else {
         return Err(WordsError::OutOfMemory);

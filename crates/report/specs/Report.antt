@@ -1,8 +1,14 @@
 -- The text of a report.
-use Rattle.std.specs.Prelude.{ℕ, ◌<◌, Bool, true, false, List, [], ◌∷◌, ◌++◌}
+use Rattle.std.specs.Prelude.{ℕ, ◌<◌, ◌≤◌, ◌==◌, if◌then◌else◌, Bool, true, false, List, [], ◌∷◌, ◌++◌}
 use Rattle.std.specs.Prelude.{length, map, All, flat_map, codes, decimal, slice_index_or}
 use Rattle.gadget_model.specs.Circuit.{Circuit}
 use Rattle.wire_table.specs.Items.{Item}
+use Rattle.wire_table.specs.Whiches.{which_word}
+use Rattle.wire_table.specs.declared.which.Which.{Which}
+use Rattle.wire_table.specs.declared.which.Which.TheVariants.{Any, Input, Both}
+use Rattle.tallies.specs.declared.tally.Label.{Label}
+use Rattle.tallies.specs.declared.tally.Label.TheVariants as label
+use Rattle.tallies.specs.declared.tally.Cell.{Cell}
 use Rattle.mask_terms.specs.Tasks.{task_word}
 use Rattle.mask_terms.specs.Wires.{wires_word}
 use Rattle.mask_terms.specs.declared.task.Task.{Task}
@@ -57,6 +63,38 @@ fail_lines items failing = flat_map (fail_line items) failing
 abbrev pub verdict : Bool → List ℕ
 verdict true = codes "verdict yes" ++ newline
 verdict false = codes "verdict no" ++ newline
+
+-- numbers, each after a space
+abbrev pub spaced : List ℕ → List ℕ
+spaced numbers = flat_map (λ n. codes " " ++ decimal n) numbers
+
+-- The failure coefficients of an event, from that of the sets of no wires on.
+abbrev pub coefficients_line : List ℕ → List ℕ
+coefficients_line list = codes "coefficients" ++ spaced list ++ newline
+
+-- What some events ask over, and at each size the greatest of their coefficients.
+abbrev pub greatest_line : Which → List ℕ → List ℕ
+greatest_line which list = codes "greatest " ++ which_word which ++ spaced list ++ newline
+
+-- The name of an item, or its number where it is past the items.
+abbrev pub name_or_number : List Item → ℕ → List ℕ
+name_or_number items i = slice_index_or (map (λ item. item.name) items) i (codes "#" ++ decimal i)
+
+-- what a tally counts at a place
+unfoldable pub label_words : List Item → Label → List ℕ
+label_words items (label.Size size) = codes "tally size " ++ decimal size
+label_words items (label.Item item) = codes "tally item " ++ name_or_number items item
+
+-- A line for a cell of a tally, if it has counted anything.
+unfoldable pub tally_line : List Item → Cell → List ℕ
+tally_line items cell =
+    if cell.count == 0 then [] else label_words items cell.label ++ codes " " ++ decimal cell.count ++ newline
+
+-- No event asks of an input past the second, and no word tells such an input from the second.
+abbrev pub HasOwnWord : Which → Type 0
+HasOwnWord Any = Unit {0}
+HasOwnWord (Input k) = k ≤ 1
+HasOwnWord Both = Unit {0}
 
 -- the items of a tuple are numbers of these
 abbrev pub AreAmong : List Item → List ℕ → Type 0

@@ -1,10 +1,14 @@
 //! The text of a report, built line by line.
 
-ghost use Rattle.std.specs.Prelude.{◌≡◌, ◌<◌, [], ◌++◌, length, map, All, IfOk, OnOk, OnErr, codes, string_bytes};
+ghost use Rattle.std.specs.Prelude.{◌≡◌, ◌<◌, false, [], ◌++◌, length, map, All, IfOk, OnOk, OnErr, codes, string_bytes, decimal};
+ghost use Rattle.mask_terms.specs.Tasks.{is_demo};
 ghost use Rattle.wire_table.specs.Items.{item_of};
+ghost use Rattle.wire_table.specs.Whiches.{which_word};
 ghost use Rattle.report.specs.Report.{AreAmong, head, event_line, item_name, fail_line, fail_lines, verdict};
 ghost use Rattle.report.specs.Report.{check_line as check_line_of, gadget_line as gadget_line_of};
 ghost use Rattle.report.specs.Report.{space_line as space_line_of, wires_line as wires_line_of};
+ghost use Rattle.report.specs.Report.{newline, spaced, coefficients_line, greatest_line, HasOwnWord};
+ghost use Rattle.report.specs.Report.{name_or_number, label_words as label_words_of, tally_line};
 ghost use Rattle.report.specs.Additions.{Appends};
 
 use antichain_list::Antichain;
@@ -14,7 +18,8 @@ use mask_bytes::OutOfMemory;
 use mask_terms::{Task, Wires};
 use std::alloc::Global;
 use std::marker::Model;
-use wire_table::Item;
+use tallies::{Cell, Label};
+use wire_table::{Item, Which};
 
 /// A report as far as it is built: whole lines, each ended by a line feed. Contracts see its bytes. A call to which
 /// memory is refused leaves it as it was.
@@ -48,7 +53,8 @@ impl Report {
         &self.bytes
     }
 
-    /// Adds the lines of the check, of the gadget, and of the tuples of at most `size` of the `items`.
+    /// Adds the lines of the check, of the gadget, and of the tuples of at most `size` of the `items`. The check that a
+    /// demonstration makes is named by its notion.
     pub fn head(
         &mut self,
         task: Task,
@@ -58,6 +64,7 @@ impl Report {
         size: u8,
         tuples: u64,
     ) -> Result<(), OutOfMemory>
+        requires asked { is_demo task ≡ false }
         ensures added { OnOk result (self.new ≡ self.old ++ head task t gadget.now items size tuples) }
         ensures refused { OnErr result (self.new ≡ self.old) }
     {
@@ -114,6 +121,37 @@ impl Report {
         };
         Ok(self.bytes.extend_from_slice(line)?)
     }
+
+    /// Adds the line of the failure coefficients of an event.
+    pub fn coefficients(&mut self, list: &[u128]) -> Result<(), OutOfMemory>
+        ensures added { OnOk result (self.new ≡ self.old ++ coefficients_line list.now) }
+        ensures refused { OnErr result (self.new ≡ self.old) }
+    {
+        let line = numbers_line(*self.bytes.allocator(), "coefficients", list)?;
+        Ok(self.bytes.extend_from_slice(&line)?)
+    }
+
+    /// Adds the line of the greatest coefficients of the events that ask over these inputs.
+    pub fn greatest(&mut self, which: Which, list: &[u128]) -> Result<(), OutOfMemory>
+        requires { HasOwnWord which }
+        ensures added { OnOk result (self.new ≡ self.old ++ greatest_line which list.now) }
+        ensures refused { OnErr result (self.new ≡ self.old) }
+    {
+        let alloc = *self.bytes.allocator();
+        let words = greatest_words(alloc, which)?;
+        let line = numbers_line(alloc, &words, list)?;
+        Ok(self.bytes.extend_from_slice(&line)?)
+    }
+
+    /// Adds the line of a cell of a tally, unless it counted nothing. An item past the `items` has its number for a
+    /// name.
+    pub fn tally(&mut self, items: &[Item], cell: &Cell) -> Result<(), OutOfMemory>
+        ensures added { OnOk result (self.new ≡ self.old ++ tally_line (map item_of items.now) cell.now) }
+        ensures refused { OnErr result (self.new ≡ self.old) }
+    {
+        let line = cell_line(*self.bytes.allocator(), items, cell)?;
+        Ok(self.bytes.extend_from_slice(&line)?)
+    }
 }
 
 // The line of the check that was asked for.
@@ -153,6 +191,90 @@ fn wires_line(alloc: Global, wires: Wires, count: u64) -> Result<String, OutOfMe
 {
     let word = wires.word();
     Ok(format!(in alloc; "wires {word} {count}\n")?)
+}
+
+// The words of a line of greatest coefficients.
+fn greatest_words(alloc: Global, which: Which) -> Result<String, OutOfMemory>
+    ensures { IfOk result (λ text. string_bytes text ≡ codes "greatest " ++ which_word which) }
+{
+    let word = which.word();
+    Ok(format!(in alloc; "greatest {word}")?)
+}
+
+// A line of these words and numbers.
+fn numbers_line(alloc: Global, words: &str, list: &[u128]) -> Result<Vec<u8>, OutOfMemory>
+    ensures { IfOk result (λ line. line.items ≡ words.now ++ spaced list.now ++ newline) }
+{
+    let mut line = Vec::from_slice(alloc, words.as_bytes())?;
+    for number in list {
+        line.push(b' ')?;
+        line.extend_from_slice(Buffer::new().format(*number).as_bytes())?;
+    }
+    line.push(b'\n')?;
+    Ok(line)
+}
+
+// The line of a cell, which is empty where nothing was counted.
+#[tactic(auto, unfolding(crate::specs::Report::tally_line))]
+fn cell_line(alloc: Global, items: &[Item], cell: &Cell) -> Result<Vec<u8>, OutOfMemory>
+    ensures { IfOk result (λ line. line.items ≡ tally_line (map item_of items.now) cell.now) }
+{
+    if cell.count == 0 {
+        return Ok(Vec::new(alloc));
+    }
+    let mut line = label_words(alloc, items, cell.label)?;
+    line.push(b' ')?;
+    line.extend_from_slice(Buffer::new().format(cell.count).as_bytes())?;
+    line.push(b'\n')?;
+    Ok(line)
+}
+
+// The words for what a cell counts.
+#[tactic(auto, unfolding(crate::specs::Report::label_words))]
+fn label_words(alloc: Global, items: &[Item], label: Label) -> Result<Vec<u8>, OutOfMemory>
+    ensures { IfOk result (λ words. words.items ≡ label_words_of (map item_of items.now) label) }
+{
+    match label {
+        Label::Size(size) => size_words(alloc, size),
+        Label::Item(number) => item_words(alloc, items, number),
+    }
+}
+
+// The words for tuples of a size.
+fn size_words(alloc: Global, size: u8) -> Result<Vec<u8>, OutOfMemory>
+    ensures { IfOk result (λ words. words.items ≡ codes "tally size " ++ decimal size) }
+{
+    let mut words = Vec::from_slice(alloc, b"tally size ")?;
+    words.extend_from_slice(Buffer::new().format(size).as_bytes())?;
+    Ok(words)
+}
+
+// The words for tuples with an item.
+fn item_words(alloc: Global, items: &[Item], number: u16) -> Result<Vec<u8>, OutOfMemory>
+    ensures { IfOk result (λ words. words.items ≡ codes "tally item " ++ name_or_number (map item_of items.now) number) }
+{
+    let Some(item) = items.get(usize::from(number)) else {
+        return number_words(alloc, number);
+    };
+    name_words(alloc, item.name.bytes())
+}
+
+// The words for tuples with an item of this name.
+fn name_words(alloc: Global, name: &[u8]) -> Result<Vec<u8>, OutOfMemory>
+    ensures { IfOk result (λ words. words.items ≡ codes "tally item " ++ name.now) }
+{
+    let mut words = Vec::from_slice(alloc, b"tally item ")?;
+    words.extend_from_slice(name)?;
+    Ok(words)
+}
+
+// The words for tuples with an item that has no name.
+fn number_words(alloc: Global, number: u16) -> Result<Vec<u8>, OutOfMemory>
+    ensures { IfOk result (λ words. words.items ≡ codes "tally item " ++ (codes "#" ++ decimal number)) }
+{
+    let mut words = Vec::from_slice(alloc, b"tally item #")?;
+    words.extend_from_slice(Buffer::new().format(number).as_bytes())?;
+    Ok(words)
 }
 
 // Adds a line for each tuple of the list.

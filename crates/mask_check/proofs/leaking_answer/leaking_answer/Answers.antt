@@ -1,25 +1,31 @@
-use Rattle.std.proofs.Common.{◌≡◌, ◌∙◌, ◌≤◌, ◌*◌, ◌^◌, ◌++◌, ℕ, List, length, map, ap, sym, subst, arith, Ok, rules, All, mul-le-mul}
+use Rattle.std.proofs.Common.{◌≡◌, ◌∙◌, ◌≤◌, ◌*◌, ◌^◌, ◌++◌, ℕ, List, length, map, ap, sym, subst, arith, inr, Ok, rules, All, mul-le-mul}
 use Rattle.std.proofs.lemmas.List.{length-map}
-use Rattle.wire_table.specs.Items.{item_of}
+use Rattle.std.proofs.lemmas.Result.{err_from_is_err_and}
+use Rattle.wire_table.specs.Items.{Item, item_of}
 use Rattle.rp_events.specs.Events.{Event, GivesEvents, event_of, events_of}
+use Rattle.rp_events.specs.declared.event.Event as code
 use Rattle.rp_events.proofs.Whiches.{events_of-small}
-use Rattle.report.specs.Report.{head, wires_line}
-use Rattle.mask_check.specs.Report.{total_weight}
-use Rattle.mask_check.specs.Decisions.{HasSmallWhich}
+use Rattle.report.specs.declared.status.Status.TheVariants.{Listed}
+use Rattle.mask_check.specs.declared.answer.QuestionAnswer as code_answer
+use Rattle.mask_check.specs.Questions.{items as items_of_check}
+use Rattle.mask_check.specs.Tallying.{state_of, tallying_of, tally_part, AreFed}
+use Rattle.mask_check.specs.Decisions.{answer_of, event_questions, AreAnswersTo, HasSmallWhich, IsOfItems}
 use Rattle.mask_check.proofs.FewTuples.{few_tuples}
 use Rattle.mask_check.proofs.Suited.{few_events}
-use Rattle.mask_check.proofs.Listing.{leaking-done}
+use Rattle.mask_check.proofs.Asking.{items-leaking}
+use Rattle.mask_check.proofs.Answering.{Answers-from_untallied}
+use Rattle.mask_check.proofs.Listing.{leaking-answered, IsOfItems-answers}
 use Rattle.mask_check.proofs.leaking_answer.leaking_answer.Goals as goal
 
 pub overflow_mul-work : goal.overflow_mul-work
-overflow_mul-work c =
+overflow_mul-work g c =
     let s = c.args.settings.now in
-    let g = c.args.gadget.now in
+    let circuit = c.args.gadget.now in
     let events = map event_of c.in_ok-events.events.items in
-    let given : GivesEvents c.args.kind g s.t (Ok events) = search rules in
+    let given : GivesEvents c.args.rp circuit s.t (Ok events) = search rules in
     let number : c.len-2.result ≡ length c.in_ok-events.events.items = search rules in
     let items : c.len.result ≡ length c.in_ok-items.items.items = search rules in
-    let few = few_events c.args.kind g s.t given.0 in
+    let few = few_events c.args.rp circuit s.t given.0 in
     let same = ap length given.1 in
     let mapped = length-map c.in_ok-events.events.items event_of in
     let few_items = c.in_ok-items.ensures.few in
@@ -28,33 +34,78 @@ overflow_mul-work c =
     let m : c.count-tuples.result * c.len-2.result ≤ 2 ^ 45 * 65536 = mul-le-mul tuples l in
     omega arith
 
-pub add_events-requires-clause-which : goal.add_events-requires-clause-which
-add_events-requires-clause-which c =
+pub event_answers-requires-clause-which : goal.event_answers-requires-clause-which
+event_answers-requires-clause-which g c =
     let s = c.args.settings.now in
-    let g = c.args.gadget.now in
-    let given : GivesEvents c.args.kind g s.t (Ok (map event_of c.in_ok-events.events.items)) = search rules in
+    let circuit = c.args.gadget.now in
+    let given : GivesEvents c.args.rp circuit s.t (Ok (map event_of c.in_ok-events.events.items)) = search rules in
     let P : List Event → Type 0 = λ es. All HasSmallWhich es in
-    subst P (sym (ap (map event_of) c.deref-2.ensures.value ∙ given.1)) (events_of-small c.args.kind g s.t)
+    λ κs alive. subst P (sym (ap (map event_of) c.deref.ensures.value ∙ given.1)) (events_of-small c.args.rp circuit s.t)
+
+pub add_events-requires : goal.add_events-requires
+add_events-requires g c =
+    let s = c.args.settings.now in
+    let circuit = c.args.gadget.now in
+    let events = c.deref.result.now in
+    let of_are : map item_of c.deref-4.result.now ≡ items_of_check s circuit =
+    ap (map item_of) c.deref-4.ensures.value ∙ c.in_ok-items.ensures.items ∙ sym (items-leaking s circuit c.args.rp c.requires.asked) in
+    let P : List code_answer.QuestionAnswer → Type 0 = λ xs. All (IsOfItems (map item_of c.deref-4.result.now)) (map answer_of xs) in
+    record {
+      there = subst P (sym c.deref-5.ensures.value)
+          (IsOfItems-answers s circuit (map item_of c.deref-4.result.now) of_are (event_questions s (map event_of events))
+          (map answer_of c.in_ok-answers.answers.items) c.in_ok-answers.ensures);
+    }
+
+pub returns-in_err-tally : goal.returns-in_err-tally
+returns-in_err-tally g c =
+    let p = err_from_is_err_and c.from_residual-in_err-tally.result c.from_residual-in_err-tally.ensures.1 in
+    let s = c.args.settings.now in
+    let circuit = c.args.gadget.now in
+    let events = c.in_ok-events.events.items in
+    let of_items = c.in_ok-items.items.items in
+    let answers = c.in_ok-answers.answers.items in
+    let given : GivesEvents c.args.rp circuit s.t (Ok (map event_of events)) = search rules in
+    let number : c.len-2.result ≡ length events = search rules in
+    let items : c.len.result ≡ length of_items = search rules in
+    let within : c.count-tuples.result * c.len-2.result ≤ s.budget = search rules in
+    let tallying = tallying_of (λ b. state_of ((goal.Tally-dyn g (b.vtable, b.value)).kind b.value) ((goal.Tally-dyn g (b.vtable, b.value)).counts b.value)) c.args.tallies.now.items c.tally.new.tallies.items in
+    let right : AreAnswersTo s circuit (map event_of events) (map answer_of answers) =
+    subst (λ (xs : List code.Event). AreAnswersTo s circuit (map event_of xs) (map answer_of answers)) c.deref.ensures.value c.in_ok-answers.ensures in
+    let fed : AreFed s (map answer_of answers) tallying =
+    subst (λ (xs : List code_answer.QuestionAnswer). AreFed s (map answer_of xs) tallying) c.deref-9.ensures.value c.tally.ensures.fed in
+    let done = leaking-answered s circuit c.args.rp c.requires.asked events c.deref-3.result.now c.deref-6.result.now of_items c.deref-2.result.now c.deref-4.result.now
+    answers c.deref-5.result.now c.deref-7.result.now c.len.result c.len-2.result c.count-tuples.result
+    c.in_ok-report.report c.add_events.new.report c.add_greatest.new.report
+    c.deref-3.ensures.value c.deref-6.ensures.value c.deref-2.ensures.value c.deref-4.ensures.value c.deref-5.ensures.value c.deref-7.ensures.value
+    given.0 given.1 c.in_ok-items.ensures.items items number c.count-tuples.ensures within right
+    c.in_ok-report.ensures c.in_ok-add_events.ensures c.in_ok-add_greatest.ensures in
+    rw (p.1, p.2) (inr (done.0, record { answers = map answer_of answers; right = (done.1).right; fed = fed }))
 
 pub returns : goal.returns
-returns c =
+returns g c =
     let s = c.args.settings.now in
-    let g = c.args.gadget.now in
-    let given : GivesEvents c.args.kind g s.t (Ok (map event_of c.in_ok-events.events.items)) = search rules in
-    let events = map event_of c.deref-2.result.now in
-    let are : events ≡ events_of c.args.kind g s.t = ap (map event_of) c.deref-2.ensures.value ∙ given.1 in
-    let number : c.len-2.result ≡ length c.in_ok-events.events.items = search rules in
-    let items : c.len.result ≡ length c.in_ok-items.items.items = search rules in
-    let item_count : c.len.result ≡ length (map item_of c.deref.result.now) =
-    items ∙ sym (ap length c.deref.ensures.value) ∙ sym (length-map c.deref.result.now item_of) in
-    let event_count : c.len-2.result ≡ length events =
-    number ∙ sym (ap length c.deref-2.ensures.value) ∙ sym (length-map c.deref-2.result.now event_of) in
-    let all : c.count-tuples.result * c.len-2.result ≡ c.count-tuples.result * length events = ap (λ (n : ℕ). c.count-tuples.result * n) event_count in
+    let circuit = c.args.gadget.now in
+    let events = c.in_ok-events.events.items in
+    let of_items = c.in_ok-items.items.items in
+    let answers = c.in_ok-answers.answers.items in
+    let given : GivesEvents c.args.rp circuit s.t (Ok (map event_of events)) = search rules in
+    let number : c.len-2.result ≡ length events = search rules in
+    let items : c.len.result ≡ length of_items = search rules in
     let within : c.count-tuples.result * c.len-2.result ≤ s.budget = search rules in
-    let before : c.in_ok-report.report ≡ head s.task s.t g c.len.result s.size c.count-tuples.result ++ wires_line s.wires (total_weight (map item_of c.deref.result.now)) =
-    c.in_ok-report.ensures
-    ∙ ap (λ (n : ℕ). head s.task s.t g n s.size c.count-tuples.result ++ wires_line s.wires (total_weight (map item_of c.deref.result.now)))
-    (sym (item_count ∙ length-map c.deref.result.now item_of)) in
-    leaking-done s g c.args.kind c.requires.asked events (map item_of c.deref.result.now) c.len.result c.count-tuples.result (c.count-tuples.result * c.len-2.result)
-    c.in_ok-report.report c.add_events.new.report given.0 are (ap (map item_of) c.deref.ensures.value ∙ c.in_ok-items.ensures.items) item_count
-    c.count-tuples.ensures all within before c.in_ok-add_events.ensures
+    let tallying = tallying_of (λ b. state_of ((goal.Tally-dyn g (b.vtable, b.value)).kind b.value) ((goal.Tally-dyn g (b.vtable, b.value)).counts b.value)) c.args.tallies.now.items c.tally.new.tallies.items in
+    let right : AreAnswersTo s circuit (map event_of events) (map answer_of answers) =
+    subst (λ (xs : List code.Event). AreAnswersTo s circuit (map event_of xs) (map answer_of answers)) c.deref.ensures.value c.in_ok-answers.ensures in
+    let fed : AreFed s (map answer_of answers) tallying =
+    subst (λ (xs : List code_answer.QuestionAnswer). AreFed s (map answer_of xs) tallying) c.deref-9.ensures.value c.tally.ensures.fed in
+    let done = leaking-answered s circuit c.args.rp c.requires.asked events c.deref-3.result.now c.deref-6.result.now of_items c.deref-2.result.now c.deref-4.result.now
+    answers c.deref-5.result.now c.deref-7.result.now c.len.result c.len-2.result c.count-tuples.result
+    c.in_ok-report.report c.add_events.new.report c.add_greatest.new.report
+    c.deref-3.ensures.value c.deref-6.ensures.value c.deref-2.ensures.value c.deref-4.ensures.value c.deref-5.ensures.value c.deref-7.ensures.value
+    given.0 given.1 c.in_ok-items.ensures.items items number c.count-tuples.ensures within right
+    c.in_ok-report.ensures c.in_ok-add_events.ensures c.in_ok-add_greatest.ensures in
+    let of_are : map item_of c.deref-8.result.now ≡ items_of_check s circuit =
+    ap (map item_of) c.deref-8.ensures.value ∙ c.in_ok-items.ensures.items ∙ sym (items-leaking s circuit c.args.rp c.requires.asked) in (
+      done.0,
+      Answers-from_untallied s circuit tallying (map answer_of answers) Listed c.add_greatest.new.report c.tally.new.report done.1 fed
+          (c.in_ok-tally.ensures.added ∙ ap (λ (of : List Item). c.add_greatest.new.report ++ tally_part s of tallying.after) of_are),
+    )

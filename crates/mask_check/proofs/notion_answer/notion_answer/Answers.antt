@@ -4,11 +4,11 @@ use Rattle.mask_check.proofs.Asking.{IsNotionAnswer-from}
 use Rattle.mask_check.proofs.notion_answer.notion_answer.Goals as goal
 
 pub verdict-requires-clause-answer : goal.verdict-requires-clause-answer
-verdict-requires-clause-answer c =
+verdict-requires-clause-answer g c =
     let s = c.args.settings.now in
-    let g = c.args.gadget.now in
+    let circuit = c.args.gadget.now in
     let q = c.in_ok-query.query in
-    let made : q ≡ record { notion = c.args.notion; gadget = g; table = c.args.table.now; t = s.t } = search rules in
-    IsNotionAnswer-from s g c.args.table.now c.args.notion c.requires.asked (c.requires.settings.notion_size c.args.notion c.requires.asked) q made
+    let made : q ≡ record { notion = c.args.notion; gadget = circuit; table = c.args.table.now; t = s.t } = search rules in
+    IsNotionAnswer-from s circuit c.args.table.now c.args.notion c.requires.asked (c.requires.settings.notion_size c.args.notion c.requires.asked) q made
     (map item_of c.list.result.now) c.items.result c.size.result c.count-tuples.result c.in_ok-failing.failing
     c.list.ensures c.items.ensures.items c.size.ensures.size c.count-tuples.ensures c.in_ok-failing.ensures

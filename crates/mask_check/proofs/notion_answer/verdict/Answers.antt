@@ -6,7 +6,7 @@ use Rattle.report.specs.Report.{head, fail_lines, verdict}
 use Rattle.report.specs.declared.status.Status.{Status}
 use Rattle.report.specs.declared.status.Status.TheVariants.{Yes, No}
 use Rattle.mask_check.specs.Questions.{breaks, items, tuple_count, FailsIn}
-use Rattle.mask_check.proofs.Answering.{AreAmong-from_answer, Answers-verdict, added_lines}
+use Rattle.mask_check.proofs.Answering.{AreAmong-from_answer, AnswersUntallied-verdict, added_lines}
 use Rattle.mask_check.proofs.notion_answer.verdict.Goals as goal
 use Rattle.mask_check.proofs.notion_answer.verdict.Goals.{then-secure, else-secure}
 
@@ -17,7 +17,7 @@ fails-requires c =
     let one = c.requires.answer in
     let Fails = FailsIn g (breaks one.notion s.t) in
     let P : List Item → Type 0 = λ of. IsAnswer Fails (length of) s.size c.args.failing.now in
-    record { there = AreAmong-from_answer Fails (map item_of c.args.items.now) s.size c.args.failing.now (subst P (sym one.items_are) one.minimal) }
+    record { there = AreAmong-from_answer Fails (map item_of c.args.items.now) s.size c.args.failing.now (subst P (sym one.items_are) one.right.minimal) }
 
 pub returns : goal.returns
 returns c =
@@ -27,7 +27,7 @@ returns c =
     let count : length c.args.items.now ≡ length (items s g) = sym (length-map c.args.items.now item_of) ∙ ap length one.items_are in
     let secure = c.is_empty-secure.result in
     let status_by : Bool → Status = λ yes_. if yes_ then Yes else No in
-    Answers-verdict s g one.notion one.asks c.args.failing.now one.minimal secure c.if-secure.status c.verdict.new.self c.is_empty-secure.ensures
+    AnswersUntallied-verdict s g one.notion one.asks c.args.failing.now one.right secure c.if-secure.status c.verdict.new.self c.is_empty-secure.ensures
     (elim c.if-secure.branch [
       | then-secure w ↦ w.status-is ∙ ap status_by (sym w.if-secure.true)
       | else-secure w ↦ w.status-is ∙ ap status_by (sym w.if-secure.false)

@@ -1,0 +1,119 @@
+//! Gates that tell which worker was at which block, and that two workers work at the same time.
+
+ghost use Rattle.std.specs.Prelude.{◌<◌};
+
+use super::Table;
+use crate::{Gate, minimal};
+use std::sync::atomic::{AtomicBool, AtomicU64, Ordering};
+use std::test::Fail;
+use std::thread::yield_now;
+
+// Keeps each of two workers at its first block until the other one has been at a block.
+#[derive(Drop)]
+struct Meeting {
+    first_came: AtomicBool,
+    second_came: AtomicBool,
+    gave_up: AtomicBool,
+}
+
+impl Gate for Meeting {
+    fn at_block(&self, worker: u16, _block: u64) {
+        let (own, other) = if worker == 0 {
+            (&self.first_came, &self.second_came)
+        } else {
+            (&self.second_came, &self.first_came)
+        };
+        own.store(true, Ordering::SeqCst);
+        for _turn in 0..50_000_000 {
+            if other.load(Ordering::SeqCst) {
+                return;
+            }
+            yield_now();
+        }
+        self.gave_up.store(true, Ordering::SeqCst);
+    }
+}
+
+#[test]
+fn two_workers_meet(rt: HostRuntime) -> Result<(), Fail> {
+    let gate = Meeting {
+        first_came: AtomicBool::new(false),
+        second_came: AtomicBool::new(false),
+        gave_up: AtomicBool::new(false),
+    };
+    let table = Table {
+        items: 4,
+        size: 2,
+        failing: &[&[1], &[0, 1], &[2, 3]],
+    };
+    let found = minimal(&rt, rt.alloc(), &table, 2, 1, 4, &gate)?;
+    assert!(rt; !gate.gave_up.load(Ordering::SeqCst));
+    assert!(rt; gate.first_came.load(Ordering::SeqCst));
+    assert!(rt; gate.second_came.load(Ordering::SeqCst));
+    assert_eq!(rt; found.len(), 2);
+    assert_eq!(rt; found.tuple(0).items(), [1].as_slice());
+    assert_eq!(rt; found.tuple(1).items(), [2, 3].as_slice());
+    Ok(())
+}
+
+// Counts the blocks, marks their numbers, and tells whether each had the worker and the first rank that it should.
+#[derive(Drop)]
+struct Register {
+    workers: u64,
+    block: u64,
+    blocks: AtomicU64,
+    numbers: AtomicU64,
+    misplaced: AtomicBool,
+    ghost some_workers: { 0 < workers },
+    ghost some_ranks: { 0 < block },
+}
+
+impl Gate for Register {
+    fn at_block(&self, worker: u16, block: u64) {
+        let number = block / self.block;
+        if block % self.block != 0 || number % self.workers != u64::from(worker) {
+            self.misplaced.store(true, Ordering::SeqCst);
+        }
+        self.blocks.fetch_add(1, Ordering::SeqCst);
+        self.numbers.fetch_or(1 << (number % 64), Ordering::SeqCst);
+    }
+}
+
+#[test]
+fn each_block_has_its_worker(rt: HostRuntime) -> Result<(), Fail> {
+    // The workers, the ranks of a block, and how many blocks the eleven tuples of at most two of four items make.
+    for (workers, block, blocks) in [
+        (1, 1, 11),
+        (3, 2, 6),
+        (7, 3, 4),
+        (64, 1, 11),
+        (64, 65536, 1),
+    ] {
+        let gate = Register {
+            workers: u64::from(workers),
+            block,
+            blocks: AtomicU64::new(0),
+            numbers: AtomicU64::new(0),
+            misplaced: AtomicBool::new(false),
+        };
+        let table = Table {
+            items: 4,
+            size: 2,
+            failing: &[],
+        };
+        let found = minimal(&rt, rt.alloc(), &table, workers, block, 4, &gate)?;
+        assert!(rt; found.is_empty());
+        assert_eq!(rt;
+            gate.blocks.load(Ordering::SeqCst),
+            blocks,
+            "{workers} {block}"
+        );
+        assert_eq!(rt;
+            gate.numbers.load(Ordering::SeqCst),
+            (1 << blocks) - 1,
+            "{workers} {block}"
+        );
+        assert!(rt; !gate.misplaced.load(Ordering::SeqCst));
+    }
+    Ok(())
+}

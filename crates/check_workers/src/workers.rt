@@ -1,0 +1,164 @@
+//! The minimal failing tuples, found by workers that take the blocks of ranks in turn.
+
+ghost use Rattle.std.specs.Prelude.{◌≡◌, ◌↔◌, ℕ, ◌+◌, ◌/◌, ◌<◌, ◌≤◌, List, IfOk, length};
+ghost use Rattle.std.specs.Int.{div_ceil};
+ghost use Rattle.std.specs.Thread.{IsSync};
+ghost use Rattle.tuple_model.specs.Tuples.{tuples};
+ghost use Rattle.tuple_model.specs.Antichains.{IsAntichain};
+ghost use Rattle.tuple_model.specs.Minimal.{IsAnswer};
+ghost use Rattle.check_workers.specs.Passes.{CoversRanked, IsTaken, IsWithin};
+
+use crate::gate::Gate;
+use crate::pass::cover_range;
+use antichain_list::Antichain;
+use cover_core::Query;
+use mask_bytes::OutOfMemory;
+use std::alloc::Global;
+use std::marker::Brand;
+use std::sync::ledger::{Blank, Ledger};
+use std::thread::{Threads, join};
+use tuple_order::{Range, Steps, count};
+
+/// The minimal failing tuples of a query. All tuples are cut into blocks of `block` ranks, which the workers take in
+/// turn: the one with number `w` takes the blocks `w`, `w + workers`, and so on, and calls the gate before each. They
+/// work in threads of their own, as far as threads can be started, and at most as many work as there are blocks.
+/// `first_words` has no effect yet.
+pub fn minimal<R: Threads + Sync, Q: Query, G: Gate>(
+    rt: &R,
+    alloc: Global,
+    query: &Q,
+    workers: u16,
+    block: u64,
+    _first_words: u32,
+    gate: &G,
+) -> Result<Antichain, OutOfMemory>
+    requires workers { 1 ≤ workers }
+    requires block { 1 ≤ block }
+    ensures { IfOk result
+        (IsAnswer (Q.Question.Fails query.now) (Q.Question.items query.now) (Q.Question.size query.now)) }
+{
+    let ranks = count(query.items(), query.size());
+    let blocks = ranks.div_ceil(block);
+    let working = u64::from(workers).min(blocks) as u16;
+    let shares = Shares {
+        ranks,
+        block,
+        workers: working,
+    };
+    merged(rt, alloc, query, shares, gate, 0, working)
+}
+
+// How the ranks are shared out: in blocks of equally many, of which each worker takes every `workers`th, from the one
+// with its own number on.
+#[derive(Clone, Copy, Drop)]
+struct Shares {
+    ranks: u64,
+    block: u64,
+    workers: u16,
+    ghost block_has_ranks: { 0 < block },
+    ghost has_workers: { 0 < workers },
+}
+
+// The merged lists of the workers from `first` to before `end`. Half of them begin in a new thread; where none can be
+// started, they work in this one.
+#[cycle(workers)]
+fn merged<R: Threads + Sync, Q: Query, G: Gate>(
+    rt: &R,
+    alloc: Global,
+    query: &Q,
+    shares: Shares,
+    gate: &G,
+    first: u16,
+    end: u16,
+) -> Result<Antichain, OutOfMemory>
+    requires some { first < end }
+    requires workers { end ≤ shares.workers }
+    requires ranks { shares.ranks ≡ length (tuples (Q.Question.items query.now) (Q.Question.size query.now)) }
+    ensures covers { IfOk result (CoversRanked (Q.Question.Fails query.now) (Q.Question.items query.now)
+        (Q.Question.size query.now) (IsTaken shares.workers shares.block first end)) }
+    ensures antichain { IfOk result IsAntichain }
+{
+    if end - first == 1 {
+        return found(alloc, query, shares, gate, first);
+    }
+    let middle = first + (end - first) / 2;
+    let (low, high) = join(
+        rt,
+        || -> Result<Antichain, OutOfMemory>
+            requires { IsSync R.row × IsSync Q.row × IsSync G.row × (first < middle) × (middle ≤ shares.workers)
+                × (shares.ranks ≡ length (tuples (Q.Question.items query.now) (Q.Question.size query.now))) }
+            ensures { IfOk result (CoversRanked (Q.Question.Fails query.entry.now) (Q.Question.items query.entry.now)
+                (Q.Question.size query.entry.now) (IsTaken shares.workers shares.block first middle)) }
+        { merged(rt, alloc, query, shares, gate, first, middle) },
+        || -> Result<Antichain, OutOfMemory>
+            requires { IsSync R.row × IsSync Q.row × IsSync G.row × (middle < end) × (end ≤ shares.workers)
+                × (shares.ranks ≡ length (tuples (Q.Question.items query.now) (Q.Question.size query.now))) }
+            ensures { IfOk result (CoversRanked (Q.Question.Fails query.entry.now) (Q.Question.items query.entry.now)
+                (Q.Question.size query.entry.now) (IsTaken shares.workers shares.block middle end)) }
+        { merged(rt, alloc, query, shares, gate, middle, end) },
+    );
+    let mut list = low?;
+    list.merge(&high?)?;
+    Ok(list)
+}
+
+// What one worker finds, with a counter of its own.
+fn found<Q: Query, G: Gate>(
+    alloc: Global,
+    query: &Q,
+    shares: Shares,
+    gate: &G,
+    worker: u16,
+) -> Result<Antichain, OutOfMemory>
+    requires worker { worker < shares.workers }
+    requires ranks { shares.ranks ≡ length (tuples (Q.Question.items query.now) (Q.Question.size query.now)) }
+    ensures covers { IfOk result (CoversRanked (Q.Question.Fails query.now) (Q.Question.items query.now)
+        (Q.Question.size query.now) (IsTaken shares.workers shares.block worker (worker + 1))) }
+    ensures antichain { IfOk result IsAntichain }
+{
+    found_counted::<Q, G, Brand>(alloc, query, shares, gate, worker, Blank::new(1))
+}
+
+// The scratch, the list and the counter are made in the worker's own thread, and no other thread writes beside them.
+fn found_counted<Q: Query, G: Gate, L: Ledger>(
+    alloc: Global,
+    query: &Q,
+    shares: Shares,
+    gate: &G,
+    worker: u16,
+    blank: Blank,
+) -> Result<Antichain, OutOfMemory>
+    requires name { blank.name ≡ L.name }
+    requires parts { blank.parts ≡ L.parts }
+    requires one { blank.parts ≡ 1 }
+    requires worker { worker < shares.workers }
+    requires ranks { shares.ranks ≡ length (tuples (Q.Question.items query.now) (Q.Question.size query.now)) }
+    ensures covers { IfOk result (CoversRanked (Q.Question.Fails query.now) (Q.Question.items query.now)
+        (Q.Question.size query.now) (IsTaken shares.workers shares.block worker (worker + 1))) }
+    ensures antichain { IfOk result IsAntichain }
+{
+    let (book, share) = blank.open::<L>();
+    let mut steps = Steps::make(book, share);
+    let mut scratch = query.scratch(alloc)?;
+    let mut list = Antichain::new(alloc);
+    let blocks = shares.ranks.div_ceil(shares.block);
+    for number in (u64::from(worker)..blocks).step_by(usize::from(shares.workers)) {
+        let range = range_of(shares, number);
+        gate.at_block(worker, range.from);
+        cover_range(query, &mut scratch, range, &mut steps, &mut list)?;
+    }
+    Ok(list)
+}
+
+// The ranks of a block, of which the last may have fewer than the others.
+fn range_of(shares: Shares, number: u64) -> Range
+    requires block { number < div_ceil shares.ranks shares.block }
+    ensures ranks { (rank : ℕ) → rank < shares.ranks → IsWithin result rank ↔ (rank / shares.block ≡ number) }
+    ensures within { (result.from < result.to) × (result.to ≤ shares.ranks) }
+{
+    let from = number * shares.block;
+    Range {
+        from,
+        to: from + shares.block.min(shares.ranks - from),
+    }
+}
