@@ -36,8 +36,8 @@ fn of_item(item: u16, count: u64) -> Option<Cell> {
 
 // Feeds a tuple to each tally.
 fn feed_all(tallies: &mut Vec<Box<dyn Tally>>, t: &Tuple) {
-    for place in 0..tallies.len() {
-        tallies[place].feed(0, t);
+    for tally in tallies.iter_mut() {
+        tally.feed(0, t);
     }
 }
 
@@ -75,8 +75,10 @@ fn each_tally_of_a_list_counts_for_itself(rt: HostRuntime) -> Result<(), Fail> {
     tallies.push(Box::new(rt.alloc(), ByItem::make(rt.alloc())?)?)?;
     feed_all(&mut tallies, &tuple(&rt, &[2, 5]));
     feed_all(&mut tallies, &tuple(&rt, &[5]));
-    assert_eq!(rt; tallies[0].cell(2), of_size(2, 1));
-    assert_eq!(rt; tallies[1].cell(5), of_item(5, 2));
+    let sizes = tallies.first().expect(&rt, "the first tally");
+    assert_eq!(rt; sizes.cell(2), of_size(2, 1));
+    let items = tallies.get(1).expect(&rt, "the second tally");
+    assert_eq!(rt; items.cell(5), of_item(5, 2));
     Ok(())
 }
 
