@@ -11,7 +11,8 @@ abbrev pub check_by : Bool → Settings → Settings
 check_by true s = record s { task = Sni; t = s.size }
 check_by false s = s
 
--- The check that settings ask for: a demonstration checks its file for strong non-interference, of the order of its size.
+-- The check that settings ask for: a demonstration checks its file for strong non-interference, of the order of its
+-- size.
 abbrev pub check_of : Settings → Settings
 check_of s = check_by (is_demo s.task) s
 

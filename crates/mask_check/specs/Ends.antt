@@ -86,14 +86,15 @@ IsTold s gadget No = NoneFails s gadget → ⊥
 IsTold s gadget status = Unit {0}
 
 -- The text is the report of the right answer to each question, its minimal failing tuples and its coefficients, and of
--- the tallies, which were fed these tuples; the verdict on a notion is yes where no tuple fails, and no where some does.
-pub record Answers (s : Settings) (gadget : Circuit) (tallies : Tallying) (status : Status) (text : List ℕ) : Type 0 where
+-- the tallies, which were fed these tuples; the verdict on a notion is yes where no tuple fails, and no where some
+-- does.
+pub record Answers (s : Settings) (g : Circuit) (tallies : Tallying) (status : Status) (text : List ℕ) : Type 0 where
   pub answers : List QuestionAnswer
-  pub right : AllZip (IsAnswerTo s gadget) (questions s gadget) answers
+  pub right : AllZip (IsAnswerTo s g) (questions s g) answers
   pub fed : AreFed s answers tallies
-  pub reported : text ≡ report s gadget answers tallies.after
+  pub reported : text ≡ report s g answers tallies.after
   pub ends : status ≡ ending (asked_by s.task) answers
-  pub told : IsTold s gadget status
+  pub told : IsTold s g status
 
 -- The tallies were fed the answer to each question, though no report of it was written.
 pub record FeedsAnswers (s : Settings) (gadget : Circuit) (tallies : Tallying) : Type 0 where
@@ -111,7 +112,8 @@ pub record ReadsAll {S : Type 0} (reading : Reading S) (bytes : List ℕ) : Type
   pub end : IsAtEnd (reading.left reading.after)
   pub few : length bytes ≤ most_file_bytes
 
--- The bytes of a file that a check makes, and nothing is read; or, where it makes none, all that was left of the source.
+-- The bytes of a file that a check makes, and nothing is read; or, where it makes none, all that was left of the
+-- source.
 abbrev pub HasFileBy : {S : Type 0} → Option (List ℕ) → Reading S → List ℕ → Type 0
 HasFileBy (Some made) reading bytes = (bytes ≡ made) × ReadsNothing reading
 HasFileBy None reading bytes = ReadsAll reading bytes

@@ -91,8 +91,8 @@ pub record QuestionAnswer : Type 0 where
   pub failing : List (List ℕ)
   pub coefficients : List ℕ
 
--- The coefficients of a question: of an event, for each size, the number of sets of so many wires that fail; of a notion
--- there are none.
+-- The coefficients of a question: of an event, for each size, the number of sets of so many wires that fail; of a
+-- notion there are none.
 abbrev pub AreCoefficientsOf : Settings → Circuit → Question → List ℕ → Type 0
 AreCoefficientsOf s g (breaks n t) coefficients = coefficients ≡ []
 AreCoefficientsOf s g (fails_for event t wires) coefficients =

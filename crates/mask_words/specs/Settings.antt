@@ -47,8 +47,8 @@ least_order task = if is_demo task then least_demo_shares else 0
 abbrev pub greatest_order : Task → ℕ
 greatest_order task = if leaks task then most_leaking_order else (if is_demo task then most_demo_shares else most_order)
 
--- The greatest size of a tuple. A task of random probing has the size that is given beside its order. A notion's size is
--- its order. A demonstration asks about one probe less than there are shares.
+-- The greatest size of a tuple. A task of random probing has the size that is given beside its order. A notion's size
+-- is its order. A demonstration asks about one probe less than there are shares.
 abbrev pub size_of : Task → ℕ → ℕ → ℕ
 size_of task t given = if leaks task then given else (if is_demo task then t - 1 else t)
 

@@ -251,7 +251,7 @@ fn size_words(alloc: Global, size: u8) -> Result<Vec<u8>, OutOfMemory>
 
 // The words for tuples with an item.
 fn item_words(alloc: Global, items: &[Item], number: u16) -> Result<Vec<u8>, OutOfMemory>
-    ensures { IfOk result (λ words. words.items ≡ codes "tally item " ++ name_or_number (map item_of items.now) number) }
+    ensures { IfOk result (λ w. w.items ≡ codes "tally item " ++ name_or_number (map item_of items.now) number) }
 {
     let Some(item) = items.get(usize::from(number)) else {
         return number_words(alloc, number);
