@@ -12,7 +12,7 @@ use Rattle.std.proofs.lemmas.Bool.{cases_lt, cases_eq, false≢true}
 use Rattle.std.proofs.Math.Nat.{mul-le-mul_right}
 use Rattle.std.specs.declared.cmp.Ordering.TheVariants.{Less, Equal, Greater}
 use Rattle.std.proofs.lemmas.List.Elements.{All-tail}
-use Rattle.anf.specs.Keys.{digit, key_of, digits_of_key, each_once, variables_of_key, IsKey, HaveKey}
+use Rattle.anf.specs.Keys.{digit_at, key_of, digits_of_key, each_once, variables_of_key, IsKey, HaveKey}
 
 -- a number of four digits gives its digits back
 digits_of_number : (a b c d n : ℕ) → a < 2 ^ 16 → b < 2 ^ 16 → c < 2 ^ 16 → d < 2 ^ 16 → n ≡ a * 2 ^ 48 + b * 2 ^ 32 + c * 2 ^ 16 + d →
@@ -26,7 +26,7 @@ digits_of_number a b c d n la lb lc ld e =
 
 -- the digits of some variables, each once, are these
 pub each_once-digits : (vs : List ℕ) → IsStrictlyIncreasing vs → 0 < length vs → length vs ≤ 4 →
-    each_once (digit vs 0 ∷ digit vs 1 ∷ digit vs 2 ∷ digit vs 3 ∷ []) ≡ vs
+    each_once (digit_at vs 0 ∷ digit_at vs 1 ∷ digit_at vs 2 ∷ digit_at vs 3 ∷ []) ≡ vs
 each_once-digits [] rising some few = absurd (omega arith)
 each_once-digits (a ∷ []) rising some few = grind (arith, nat_tests)
 each_once-digits (a ∷ b ∷ []) rising some few = let l = rising 0 (omega arith) in grind (arith, nat_tests)
@@ -61,14 +61,14 @@ abbrev AreFit : List ℕ → Type 0
 AreFit vs = All (λ v. v < 2 ^ 16) vs
 
 -- so each digit has
-digit-fit : (vs : List ℕ) (place : ℕ) → 0 < length vs → AreFit vs → digit vs place < 2 ^ 16
+digit-fit : (vs : List ℕ) (place : ℕ) → 0 < length vs → AreFit vs → digit_at vs place < 2 ^ 16
 digit-fit vs place some fit = fit (min (length vs - 1) place) 0 (omega arith)
 
 -- the variables with the key of some variables are these
 pub variables_of_key-key_of : (vs : List ℕ) → HaveKey vs → variables_of_key (key_of vs) ≡ vs
 variables_of_key-key_of vs h =
-    let fit : (place : ℕ) → digit vs place < 2 ^ 16 = λ place. digit-fit vs place h.some h.fit in
-    ap each_once (digits_of_number (digit vs 0) (digit vs 1) (digit vs 2) (digit vs 3) (key_of vs) (fit 0) (fit 1) (fit 2) (fit 3) refl)
+    let fit : (place : ℕ) → digit_at vs place < 2 ^ 16 = λ place. digit-fit vs place h.some h.fit in
+    ap each_once (digits_of_number (digit_at vs 0) (digit_at vs 1) (digit_at vs 2) (digit_at vs 3) (key_of vs) (fit 0) (fit 1) (fit 2) (fit 3) refl)
     ∙ each_once-digits vs h.rising h.some h.few
 
 -- the key of some variables is a key

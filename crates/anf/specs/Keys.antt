@@ -8,12 +8,12 @@ use Rattle.std.specs.List.Sorted.{IsStrictlyIncreasing}
 use Rattle.anf.specs.Monomials.{most_in_monomial}
 
 -- the digit at a place
-abbrev pub digit : List ℕ → ℕ → ℕ
-digit variables place = slice_index variables (min (length variables - 1) place)
+abbrev pub digit_at : List ℕ → ℕ → ℕ
+digit_at variables place = slice_index variables (min (length variables - 1) place)
 
 -- the key of some variables
 abbrev pub key_of : List ℕ → ℕ
-key_of vs = digit vs 0 * 2 ^ 48 + digit vs 1 * 2 ^ 32 + digit vs 2 * 2 ^ 16 + digit vs 3
+key_of vs = digit_at vs 0 * 2 ^ 48 + digit_at vs 1 * 2 ^ 32 + digit_at vs 2 * 2 ^ 16 + digit_at vs 3
 
 -- the digits of a key
 abbrev pub digits_of_key : ℕ → List ℕ

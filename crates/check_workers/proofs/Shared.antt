@@ -15,7 +15,7 @@ use Rattle.tuple_model.proofs.Ranks.{IsTuple-from_rank, rank-from_IsTuple}
 use Rattle.tuple_model.proofs.Antichains.{answer-from_antichain}
 use Rattle.tuple_order.specs.declared.ranks.Range.{Range}
 use Rattle.antichain_list.specs.Lists.{CoversBoth}
-use Rattle.check_workers.specs.Passes.{worker_of, IsTaken, IsWithin, HasRankedSubset, CoversRanked, CoversRange}
+use Rattle.check_workers.specs.Passes.{worker_of, IsTaken, IsInRange, HasRankedSubset, CoversRanked, CoversRange}
 
 -- the worker takes the rank's block, which comes before the one with this number
 abbrev pub IsTakenBefore : ℕ → ℕ → ℕ → ℕ → ℕ → Type 0
@@ -52,10 +52,10 @@ module _ (Fails : List ℕ → Type 0) (items size : ℕ) where
 
   -- a list, and the tuples of a range more
   pub CoversRanked-range : (P One : ℕ → Type 0) (range : Range) (before after : List (List ℕ)) →
-      ((rank : ℕ) → rank < length (tuples items size) → P rank ↔ (One rank ⊎ IsWithin range rank)) →
+      ((rank : ℕ) → rank < length (tuples items size) → P rank ↔ (One rank ⊎ IsInRange range rank)) →
       CoversRanked Fails items size One before → CoversRange Fails items size range before after → CoversRanked Fails items size P after
   CoversRanked-range P One range before after splits covers more t =
-      let either = HasRankedSubset-either P One (IsWithin range) splits t in (
+      let either = HasRankedSubset-either P One (IsInRange range) splits t in (
         (λ c. either.1 (elim ((more t).0 c) [ inl a ↦ inl ((covers t).0 a) | inr r ↦ inr r ])),
         (λ r. (more t).1 (elim (either.0 r) [ inl a ↦ inl ((covers t).1 a) | inr b ↦ inr b ])),
       )
@@ -152,8 +152,8 @@ same_turn workers number other some same least most =
 
 -- the ranks of one block more
 pub IsTakenBefore-next : (workers block worker number rank : ℕ) (range : Range) → 0 < workers → number % workers ≡ worker →
-    IsWithin range rank ↔ (rank / block ≡ number) →
-    IsTakenBefore workers block worker (number + workers) rank ↔ (IsTakenBefore workers block worker number rank ⊎ IsWithin range rank)
+    IsInRange range rank ↔ (rank / block ≡ number) →
+    IsTakenBefore workers block worker (number + workers) rank ↔ (IsTakenBefore workers block worker number rank ⊎ IsInRange range rank)
 IsTakenBefore-next workers block worker number rank range some turn within = (
   (λ k. elim (cases_lt (rank / block) number) [
     | inl less ↦ inl (k.0, less)
@@ -179,7 +179,7 @@ IsTakenBefore-all workers block worker number ranks blocks rank some is past les
 module _ (Fails : List ℕ → Type 0) (items size workers block worker ranks : ℕ) (some : 0 < workers) (some_ranks : 0 < block)
     (counted : ranks ≡ length (tuples items size)) where
   pub CoversRanked-block : (number : ℕ) (range : Range) (before after : List (List ℕ)) → number % workers ≡ worker →
-      ((rank : ℕ) → rank < ranks → IsWithin range rank ↔ (rank / block ≡ number)) →
+      ((rank : ℕ) → rank < ranks → IsInRange range rank ↔ (rank / block ≡ number)) →
       CoversRanked Fails items size (IsTakenBefore workers block worker number) before → CoversRange Fails items size range before after →
       CoversRanked Fails items size (IsTakenBefore workers block worker (number + workers)) after
   CoversRanked-block number range before after turn within = CoversRanked-range Fails items size (IsTakenBefore workers block worker (number + workers))

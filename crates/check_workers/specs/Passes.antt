@@ -13,8 +13,8 @@ abbrev pub IsTaken : ℕ → ℕ → ℕ → ℕ → ℕ → Type 0
 IsTaken workers block first end rank = (first ≤ worker_of workers block rank) × (worker_of workers block rank < end)
 
 -- the rank lies in the range
-abbrev pub IsWithin : Range → ℕ → Type 0
-IsWithin range rank = (range.from ≤ rank) × (rank < range.to)
+abbrev pub IsInRange : Range → ℕ → Type 0
+IsInRange range rank = (range.from ≤ rank) × (rank < range.to)
 
 -- Some failing tuple, with a rank that the fact holds of, is a subset of the tuple.
 pub record HasRankedSubset (Fails : List ℕ → Type 0) (items size : ℕ) (IsMeant : ℕ → Type 0) (t : List ℕ) : Type 0 where
@@ -33,7 +33,7 @@ CoversRanked Fails items size IsMeant list = (t : List ℕ) → Covers list t �
 -- what a list covers after a range of ranks: what it covered before, and the supersets of the failing tuples in it
 abbrev pub CoversRange : (List ℕ → Type 0) → ℕ → ℕ → Range → List (List ℕ) → List (List ℕ) → Type 0
 CoversRange Fails items size range before after =
-    (t : List ℕ) → Covers after t ↔ (Covers before t ⊎ HasRankedSubset Fails items size (IsWithin range) t)
+    (t : List ℕ) → Covers after t ↔ (Covers before t ⊎ HasRankedSubset Fails items size (IsInRange range) t)
 
 -- what a list covers after a tuple: what it covered before, and the tuple's supersets where the tuple fails
 abbrev pub CoversNext : (List ℕ → Type 0) → List (List ℕ) → List ℕ → List (List ℕ) → Type 0

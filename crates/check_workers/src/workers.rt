@@ -6,7 +6,7 @@ ghost use Rattle.std.specs.Thread.{IsSync};
 ghost use Rattle.tuple_model.specs.Tuples.{tuples};
 ghost use Rattle.tuple_model.specs.Antichains.{IsAntichain};
 ghost use Rattle.tuple_model.specs.Minimal.{IsAnswer};
-ghost use Rattle.check_workers.specs.Passes.{CoversRanked, IsTaken, IsWithin};
+ghost use Rattle.check_workers.specs.Passes.{CoversRanked, IsTaken, IsInRange};
 
 use crate::gate::Gate;
 use crate::pass::cover_range;
@@ -153,7 +153,7 @@ fn found_counted<Q: Query, G: Gate, L: Ledger>(
 // The ranks of a block, of which the last may have fewer than the others.
 fn range_of(shares: Shares, number: u64) -> Range
     requires block { number < div_ceil shares.ranks shares.block }
-    ensures ranks { (rank : ℕ) → rank < shares.ranks → IsWithin result rank ↔ (rank / shares.block ≡ number) }
+    ensures ranks { (rank : ℕ) → rank < shares.ranks → IsInRange result rank ↔ (rank / shares.block ≡ number) }
     ensures within { (result.from < result.to) × (result.to ≤ shares.ranks) }
 {
     let from = number * shares.block;

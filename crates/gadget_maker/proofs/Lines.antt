@@ -3,30 +3,30 @@ use Rattle.std.proofs.Common.{◌≡◌, ◌≤◌, ◌<◌, ℕ, ◌+◌, ◌-�
 use Rattle.std.specs.Prelude.{flat_map}
 use Rattle.std.specs.List.{range_with_len}
 use Rattle.gadget_maker.specs.Texts.{Text, indexed, paired, digit, below, sum_line, product_of_pair, masked_products, running_sum, random_of, text_of, isw_text, refresh_text}
-use Rattle.gadget_maker.specs.Rows.{operation_line, steps_from, sum_step, sum_name, other, random_row, product_row, masked_row}
+use Rattle.gadget_maker.specs.Rows.{assignment_line, sum_steps_from, sum_step, sum_name, other, random_row, product_row, masked_row}
 
-sum_line_is : (x a b : Text) → operation_line x a 43 b ≡ sum_line x a b ++ 10 ∷ []
+sum_line_is : (x a b : Text) → assignment_line x a 43 b ≡ sum_line x a b ++ 10 ∷ []
 sum_line_is x a b = ap (λ (xs : Text). xs ++ 10 ∷ []) (sym (append_assoc (x ++ codes " = " ++ a) (codes " + ") b))
 
 pub product_is : (i j : ℕ) (x a b now new : Text) → x ≡ paired (codes "p") i j → a ≡ indexed (codes "a") i → b ≡ indexed (codes "b") j
-    → new ≡ now ++ operation_line x a 42 b → new ≡ now ++ (product_of_pair (i, j) ++ 10 ∷ [])
-product_is i j x a b now new p q r h = h ∙ ap (λ xs. now ++ xs) (let e : operation_line x a 42 b ≡ product_of_pair (i, j) ++ 10 ∷ [] = rw (p, q, r) refl in e)
+    → new ≡ now ++ assignment_line x a 42 b → new ≡ now ++ (product_of_pair (i, j) ++ 10 ∷ [])
+product_is i j x a b now new p q r h = h ∙ ap (λ xs. now ++ xs) (let e : assignment_line x a 42 b ≡ product_of_pair (i, j) ++ 10 ∷ [] = rw (p, q, r) refl in e)
 
 pub masked_is : (i j : ℕ) (m r p s q old now new : Text) → m ≡ paired (codes "u") i j → r ≡ paired (codes "r") i j → p ≡ paired (codes "p") i j
     → s ≡ paired (codes "r") j i → q ≡ paired (codes "p") j i
-    → now ≡ old ++ operation_line m r 43 p → new ≡ now ++ operation_line s m 43 q → new ≡ old ++ text_of (masked_products (i, j))
+    → now ≡ old ++ assignment_line m r 43 p → new ≡ now ++ assignment_line s m 43 q → new ≡ old ++ text_of (masked_products (i, j))
 masked_is i j m r p s q old now new em er ep es eq h k =
-    k ∙ ap (λ xs. xs ++ operation_line s m 43 q) h ∙ append_assoc old (operation_line m r 43 p) (operation_line s m 43 q)
-    ∙ ap (λ xs. old ++ xs) (let e : operation_line m r 43 p ++ operation_line s m 43 q ≡ text_of (masked_products (i, j)) = rw (em, er, ep, es, eq) refl in e)
+    k ∙ ap (λ xs. xs ++ assignment_line s m 43 q) h ∙ append_assoc old (assignment_line m r 43 p) (assignment_line s m 43 q)
+    ∙ ap (λ xs. old ++ xs) (let e : assignment_line m r 43 p ++ assignment_line s m 43 q ≡ text_of (masked_products (i, j)) = rw (em, er, ep, es, eq) refl in e)
 
 pub sum_more : (n : ℕ) (output : Text) (term : ℕ → ℕ → Text) (i k : ℕ) → k < n - 1 → (now new whole sum next addend : Text)
     → next ≡ sum_name n output i k → addend ≡ term i (other i k)
-    → now ++ text_of (running_sum sum (steps_from n output term i k)) ≡ whole → new ≡ now ++ operation_line next sum 43 addend
-    → new ++ text_of (running_sum next (steps_from n output term i (k + 1))) ≡ whole
+    → now ++ text_of (running_sum sum (sum_steps_from n output term i k)) ≡ whole → new ≡ now ++ assignment_line next sum 43 addend
+    → new ++ text_of (running_sum next (sum_steps_from n output term i (k + 1))) ≡ whole
 sum_more n output term i k l now new whole sum next addend p q inv h =
-    let rest = steps_from n output term i (k + 1) in
+    let rest = sum_steps_from n output term i (k + 1) in
     let e : n - 1 - k ≡ suc (n - 1 - (k + 1)) = omega arith in
-    let steps : steps_from n output term i k ≡ (next, addend) ∷ rest =
+    let steps : sum_steps_from n output term i k ≡ (next, addend) ∷ rest =
     ap (λ len. map (sum_step n output term i) (range_with_len k len)) e ∙ ap₂ (λ (a b : Text). (a, b) ∷ rest) (sym p) (sym q) in
     ap (λ xs. xs ++ text_of (running_sum next rest)) (h ∙ ap (λ xs. now ++ xs) (sum_line_is next sum addend))
     ∙ append_assoc now (sum_line next sum addend ++ 10 ∷ []) (text_of (running_sum next rest))
@@ -38,10 +38,10 @@ headers_text n inputs output =
     codes "#SHARES " ++ digit n ++ codes "\n#IN" ++ inputs ++ codes "\n#RANDOMS" ++ flat_map (random_row n) (below n) ++ codes "\n#OUT " ++ output ∷ 10 ∷ []
 
 abbrev pub product_sum : ℕ → ℕ → Text
-product_sum n i = text_of (running_sum (paired (codes "p") i i) (steps_from n (codes "c") (paired (codes "r")) i 0))
+product_sum n i = text_of (running_sum (paired (codes "p") i i) (sum_steps_from n (codes "c") (paired (codes "r")) i 0))
 
 abbrev pub share_sum : ℕ → ℕ → Text
-share_sum n i = text_of (running_sum (codes "a" ++ digit i) (steps_from n (codes "d") random_of i 0))
+share_sum n i = text_of (running_sum (codes "a" ++ digit i) (sum_steps_from n (codes "d") random_of i 0))
 
 isw_whole : (n : ℕ) → 2 ≤ n → n ≤ 5 → [] ++ headers_text n (codes " a b") 99 ++ flat_map (product_row n) (below n) ++ flat_map (masked_row n) (below n) ++ flat_map (product_sum n) (below n) ≡ isw_text n
 unfolding isw_text

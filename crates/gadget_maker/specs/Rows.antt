@@ -15,8 +15,8 @@ abbrev pub name_text : Name → Text
 name_text n = n.stem ∷ n.index ∷ other_text n.other
 
 -- a line that assigns two names with a sign between them
-abbrev pub operation_line : Text → Text → ℕ → Text → Text
-operation_line name a sign b = name ++ codes " = " ++ a ++ 32 ∷ sign ∷ 32 ∷ b ++ 10 ∷ []
+abbrev pub assignment_line : Text → Text → ℕ → Text → Text
+assignment_line name a sign b = name ++ codes " = " ++ a ++ 32 ∷ sign ∷ 32 ∷ b ++ 10 ∷ []
 
 -- the numbers above i and below n
 abbrev pub above : ℕ → ℕ → List ℕ
@@ -47,5 +47,5 @@ abbrev pub sum_step : ℕ → Text → (ℕ → ℕ → Text) → ℕ → ℕ �
 sum_step n output term i k = (sum_name n output i k, term i (other i k))
 
 -- its steps from the k-th on
-abbrev pub steps_from : ℕ → Text → (ℕ → ℕ → Text) → ℕ → ℕ → List (Text × Text)
-steps_from n output term i k = map (sum_step n output term i) (range_with_len k (n - 1 - k))
+abbrev pub sum_steps_from : ℕ → Text → (ℕ → ℕ → Text) → ℕ → ℕ → List (Text × Text)
+sum_steps_from n output term i k = map (sum_step n output term i) (range_with_len k (n - 1 - k))

@@ -4,8 +4,8 @@ ghost use Rattle.std.specs.Prelude.{◌≡◌, ◌≤◌, ◌<◌, ◌++◌, [],
 ghost use Rattle.gadget_maker.specs.Limits.{least_demo_shares, most_demo_shares};
 ghost use Rattle.gadget_maker.specs.Texts.{below, digit, isw_text, paired as pair, refresh_text};
 ghost use Rattle.gadget_maker.specs.Texts.{random_of as random, running_sum, sum_steps, text_of};
-ghost use Rattle.gadget_maker.specs.Rows.{masked_row, name_text, operation_line, other as other_than};
-ghost use Rattle.gadget_maker.specs.Rows.{product_row, random_row, steps_from, sum_name as name_of_sum};
+ghost use Rattle.gadget_maker.specs.Rows.{masked_row, name_text, assignment_line, other as other_than};
+ghost use Rattle.gadget_maker.specs.Rows.{product_row, random_row, sum_steps_from, sum_name as name_of_sum};
 
 use crate::name::{Name, add_name, indexed, paired};
 use mask_bytes::OutOfMemory;
@@ -179,7 +179,7 @@ fn add_product_sum(text: &mut Vec<u8>, n: u8, i: u8) -> Result<(), OutOfMemory>
     requires few { n ≤ most_demo_shares }
     requires share { i < n }
     ensures { OnOk result (text.new.items ≡ text.old.items
-        ++ text_of (running_sum (pair (codes "p") i i) (steps_from n (codes "c") (pair (codes "r")) i 0))) }
+        ++ text_of (running_sum (pair (codes "p") i i) (sum_steps_from n (codes "c") (pair (codes "r")) i 0))) }
 {
     let mut sum = paired(b'p', i, i);
     for k in 0..n - 1 {
@@ -208,7 +208,7 @@ fn add_share_sum(text: &mut Vec<u8>, n: u8, i: u8) -> Result<(), OutOfMemory>
     requires few { n ≤ most_demo_shares }
     requires share { i < n }
     ensures { OnOk result (text.new.items ≡ text.old.items
-        ++ text_of (running_sum (codes "a" ++ digit i) (steps_from n (codes "d") random i 0))) }
+        ++ text_of (running_sum (codes "a" ++ digit i) (sum_steps_from n (codes "d") random i 0))) }
 {
     let mut sum = indexed(b'a', i);
     for k in 0..n - 1 {
@@ -228,7 +228,7 @@ fn add_operation(
     b: Name,
 ) -> Result<(), OutOfMemory>
     ensures { OnOk result (text.new.items ≡ text.old.items
-        ++ operation_line (name_text name) (name_text a) sign (name_text b)) }
+        ++ assignment_line (name_text name) (name_text a) sign (name_text b)) }
 {
     add_name(text, name)?;
     text.extend_from_slice(b" = ")?;

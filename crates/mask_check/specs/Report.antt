@@ -91,13 +91,13 @@ greatest_part which None = []
 greatest_part which (Some numbers) = greatest_line which numbers
 
 -- the inputs that events ask of, in the order of a report's last lines
-abbrev pub whiches : List Which
-whiches = Any ∷ Input 0 ∷ Input 1 ∷ Both ∷ []
+abbrev pub reported_whiches : List Which
+reported_whiches = Any ∷ Input 0 ∷ Input 1 ∷ Both ∷ []
 
 -- a line for each kind of event that occurs: for each size the greatest coefficient of the events of this kind
 abbrev pub greatest_lines : List Question → List QuestionAnswer → List ℕ
 greatest_lines questions answers =
-    flat_map (λ which. greatest_part which (greatest_of (coefficients_for which questions answers))) whiches
+    flat_map (λ which. greatest_part which (greatest_of (coefficients_for which questions answers))) reported_whiches
 
 abbrev pub is_empty : List (List ℕ) → Bool
 is_empty [] = true

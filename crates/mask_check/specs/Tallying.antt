@@ -34,9 +34,9 @@ abbrev pub AreKept : Tallying → Type 0
 AreKept tallies = tallies.after ≡ tallies.before
 
 -- the lines of a tally: of each cell whose count isn't 0
-abbrev pub lines_of : List Item → TallyState → List ℕ
-lines_of of_items state = flat_map (tally_line of_items) (cells state.kind state.counts)
+abbrev pub tally_lines : List Item → TallyState → List ℕ
+tally_lines of_items state = flat_map (tally_line of_items) (cells state.kind state.counts)
 
 -- where tallies are asked for, the lines of each, in order
 abbrev pub tally_part : Settings → List Item → List TallyState → List ℕ
-tally_part s of_items tallies = if s.tallies then flat_map (lines_of of_items) tallies else []
+tally_part s of_items tallies = if s.tallies then flat_map (tally_lines of_items) tallies else []

@@ -4,7 +4,7 @@ ghost use Rattle.std.specs.Prelude.{◌≡◌, ◌≤◌, [], ◌∷◌, ◌++�
 ghost use Rattle.wire_table.specs.Items.{item_of};
 ghost use Rattle.tallies.specs.Counting.{cells, fed, most_labels};
 ghost use Rattle.mask_check.specs.Decisions.{answer_of};
-ghost use Rattle.mask_check.specs.Tallying.{lines_of, printed, state_of, tally_part, tallying_of, AreFed};
+ghost use Rattle.mask_check.specs.Tallying.{tally_lines, printed, state_of, tally_part, tallying_of, AreFed};
 
 use crate::answer::QuestionAnswer;
 use antichain_list::Antichain;
@@ -87,7 +87,7 @@ fn add_tallies(
     tallies: &[Box<dyn Tally>],
     report: &mut Report,
 ) -> Result<(), OutOfMemory>
-    ensures { OnOk result (report.new ≡ report.old ++ flat_map (lines_of (map item_of items.now))
+    ensures { OnOk result (report.new ≡ report.old ++ flat_map (tally_lines (map item_of items.now))
         (map (λ b. state_of (kind b) (counts b)) tallies.now)) }
 {
     for tally in tallies {
@@ -99,7 +99,7 @@ fn add_tallies(
 // Adds the lines of a tally.
 fn add_tally(items: &[Item], tally: &Box<dyn Tally>, report: &mut Report) -> Result<(), OutOfMemory>
     ensures { OnOk result
-        (report.new ≡ report.old ++ lines_of (map item_of items.now) (state_of (kind tally.now) (counts tally.now))) }
+        (report.new ≡ report.old ++ tally_lines (map item_of items.now) (state_of (kind tally.now) (counts tally.now))) }
 {
     for k in 0..MOST_CELLS {
         let Some(cell) = cell_at(tally, k) else {

@@ -9,7 +9,7 @@ use Rattle.clap.specs.Faults.{settle_fault, walk_fault, fault_of, defaults_fault
 use Rattle.clap.specs.Kinds.{or_else}
 use Rattle.mask_words.specs.Command.{mask_command}
 use Rattle.std.proofs.lemmas.Bool.Decides.{Decides-eqb}
-use Rattle.mask_words.specs.Reading.{Holds, positionals, names_given, given_text, has_flag, all_differ, is_complete, taken_items, Item, Text, items_from}
+use Rattle.mask_words.specs.Reading.{Holds, positionals, names_given, given_text, has_flag, all_differ, is_complete, taken_items, CommandItem, Text, items_from}
 use Rattle.std.specs.Option.{option_or, is_some, option_map_or}
 use Rattle.std.proofs.lemmas.List.Folds.{find-append}
 use Rattle.clap.specs.declared.parser.matches.ValueSource.TheVariants.{DefaultValue}
@@ -108,7 +108,7 @@ first_of_row id (Some x) = refl
 abbrev first_text : Option Row → Option Text
 first_text o = option_and_then (λ r. slice_get r.values 0) o
 
-holds : (items : List Item) → known_items items ≡ true → Holds items (done_rows (made items task))
+holds : (items : List CommandItem) → known_items items ≡ true → Holds items (done_rows (made items task))
 holds items k =
     let rows = made items task in
     record {
@@ -130,7 +130,7 @@ given_row id None = refl
 given_row id (Some x) = refl
 
 -- the required words are there
-both_given : (items : List Item) → known_items items ≡ true
+both_given : (items : List CommandItem) → known_items items ≡ true
     → (is_given (codes "TASK") (done_rows (made items task)) && is_given (codes "ARG") (done_rows (made items task))) ≡ (is_some (slice_get (positionals items) 0) && is_some (slice_get (positionals items) 1))
 both_given items k = ap₂ (λ a b. a && b)
     (ap is_explicit (other_default (codes "TASK") (made items task) refl ∙ row_task items k) ∙ given_row (codes "TASK") (slice_get (positionals items) 0))
@@ -165,11 +165,11 @@ two (x ∷ y ∷ z ∷ ps) d = rw (three (length ps)) refl
 abbrev accepts_rows : Option (List Row) → Bool
 accepts_rows o = option_map_or (λ rows. is_none (last_fault rows)) o false
 
-put_is : (items : List Item) → known_items items ≡ true → put items task [] ≡ (if room task (positionals items) && all_differ (names_given items) then Some (made items task) else None)
+put_is : (items : List CommandItem) → known_items items ≡ true → put items task [] ≡ (if room task (positionals items) && all_differ (names_given items) then Some (made items task) else None)
 put_is items k = put_made items k task [] (refl, refl)
     ∙ ap (λ b. if room task (positionals items) && b then Some (made items task) else None) (ap (λ b. all_differ (names_given items) && not b) (no_rows_any (names_given items)) ∙ and_true (all_differ (names_given items)))
 
-complete_is : (items : List Item) → known_items items ≡ true → accepts_rows (put items task []) ≡ is_complete items
+complete_is : (items : List CommandItem) → known_items items ≡ true → accepts_rows (put items task []) ≡ is_complete items
 complete_is items k = ap accepts_rows (put_is items k) ∙ go (room task (positionals items) && all_differ (names_given items)) (made items task)
     ∙ ap (λ b. (room task (positionals items) && all_differ (names_given items)) && b) (last_is (made items task) ∙ both_given items k) ∙ two (positionals items) (all_differ (names_given items))
   where
@@ -177,7 +177,7 @@ complete_is items k = ap accepts_rows (put_is items k) ∙ go (room task (positi
     go true rows = refl
     go false rows = refl
 
-read_accepts : (o : Option (List Item)) → known_read o ≡ true → accepts_rows (reads o task []) ≡ is_some (option_and_then (λ items. if is_complete items then Some items else None) o)
+read_accepts : (o : Option (List CommandItem)) → known_read o ≡ true → accepts_rows (reads o task []) ≡ is_some (option_and_then (λ items. if is_complete items then Some items else None) o)
 read_accepts None k = refl
 read_accepts (Some items) k = complete_is items k ∙ go (is_complete items)
   where
@@ -206,7 +206,7 @@ no_faults [] [] rows e = refl
 no_faults [] (k ∷ ks) rows e = absurd (true≢false (sym e))
 no_faults (k ∷ ks) b rows e = absurd (true≢false (sym e))
 
-taken_from : (o : Option (List Item)) (items : List Item) → option_and_then (λ items. if is_complete items then Some items else None) o ≡ Some items → o ≡ Some items
+taken_from : (o : Option (List CommandItem)) (items : List CommandItem) → option_and_then (λ items. if is_complete items then Some items else None) o ≡ Some items → o ≡ Some items
 taken_from None items e = e
 taken_from (Some known) items e = go (is_complete known) e
   where
@@ -219,7 +219,7 @@ made_rows true rows wanted e = cc
 made_rows false rows wanted e = absurd (none_of_some rows e)
 
 -- and then the matches are what the items say
-pub matched : (words : List Text) → All IsClean (drop 1 words) → fault_of mask_command words ≡ [] → (items : List Item) → taken_items (drop 1 words) ≡ Some items → Holds items (matches_of mask_command words)
+pub matched : (words : List Text) → All IsClean (drop 1 words) → fault_of mask_command words ≡ [] → (items : List CommandItem) → taken_items (drop 1 words) ≡ Some items → Holds items (matches_of mask_command words)
 matched words clean fine items taken =
     let xs = drop 1 words in
     let rows = (settled shape.rules (the_end xs)).rows in

@@ -4,7 +4,7 @@ use Rattle.std.specs.Prelude.{option_and_then, is_some}
 use Rattle.std.specs.List.{list_any, All}
 use Rattle.std.proofs.lemmas.Str.{IsUtf8-string_bytes}
 use Rattle.std.proofs.lemmas.List.Elements.{All-cons, All-nil}
-use Rattle.mask_words.specs.Reading.{Text, Item, CommandLine, is_lone, items_from, taken_items, is_complete, command_line, command_line_of, two_words, positionals, names_given, all_differ}
+use Rattle.mask_words.specs.Reading.{Text, CommandItem, CommandLine, is_lone, items_from, taken_items, is_complete, command_line, command_line_of, two_words, positionals, names_given, all_differ}
 use Rattle.mask_words.proofs.Walk.{IsClean}
 
 module _ {Z : Type 0} where
@@ -30,17 +30,17 @@ module _ {Z : Type 0} where
   clean_words [] h = All-nil IsClean
   clean_words (x ∷ xs) h = all_text xs h
 
-abbrev if_complete : Option (List Item) → Option (List Item)
+abbrev if_complete : Option (List CommandItem) → Option (List CommandItem)
 if_complete o = option_and_then (λ items. if is_complete items then Some items else None) o
 
-no_line : (items : List Item) (ps : List Text) (d : Bool) → ((length ps == 2) && d) ≡ false → (if d then two_words ps items else None) ≡ None
+no_line : (items : List CommandItem) (ps : List Text) (d : Bool) → ((length ps == 2) && d) ≡ false → (if d then two_words ps items else None) ≡ None
 no_line items ps false e = refl
 no_line items [] true e = refl
 no_line items (x ∷ []) true e = refl
 no_line items (x ∷ y ∷ []) true e = absurd (true≢false e)
 no_line items (x ∷ y ∷ z ∷ ps) true e = refl
 
-refused_from : (o : Option (List Item)) → is_some (if_complete o) ≡ false → option_and_then command_line_of o ≡ None
+refused_from : (o : Option (List CommandItem)) → is_some (if_complete o) ≡ false → option_and_then command_line_of o ≡ None
 refused_from None e = refl
 refused_from (Some items) e = no_line items (positionals items) (all_differ (names_given items)) (go (is_complete items) e)
   where
@@ -52,10 +52,10 @@ refused_from (Some items) e = no_line items (positionals items) (all_differ (nam
 pub line_refused : (xs : List Text) → list_any is_lone xs ≡ false → is_some (taken_items xs) ≡ false → command_line xs ≡ None
 line_refused xs h e = rw h (refused_from (items_from None xs) e)
 
-abbrev IsTaken : Option (List Item) → Option CommandLine → Type 0
-IsTaken o l = (items : List Item) × (if_complete o ≡ Some items) × (is_complete items ≡ true) × (l ≡ command_line_of items)
+abbrev IsTaken : Option (List CommandItem) → Option CommandLine → Type 0
+IsTaken o l = (items : List CommandItem) × (if_complete o ≡ Some items) × (is_complete items ≡ true) × (l ≡ command_line_of items)
 
-taken_from : (o : Option (List Item)) → is_some (if_complete o) ≡ true → IsTaken o (option_and_then command_line_of o)
+taken_from : (o : Option (List CommandItem)) → is_some (if_complete o) ≡ true → IsTaken o (option_and_then command_line_of o)
 taken_from None e = absurd (true≢false (sym e))
 taken_from (Some items) e = go (is_complete items) refl e
   where

@@ -4,7 +4,7 @@ use Rattle.std.specs.Prelude.{slice_get}
 use Rattle.std.proofs.lemmas.Bool.Decides.{Decides-eqb}
 use Rattle.mask_words.proofs.Rows.{both_true}
 use Rattle.mask_words.proofs.Walk.{none_of_some}
-use Rattle.mask_words.specs.Reading.{Text, Item, CommandLine, two_words, command_line_of, positionals, names_given, given_text, has_flag, all_differ, is_complete}
+use Rattle.mask_words.specs.Reading.{Text, CommandItem, CommandLine, two_words, command_line_of, positionals, names_given, given_text, has_flag, all_differ, is_complete}
 
 some_same : {A : Type 0} (a b : A) → Some a ≡ Some b → a ≡ b
 some_same a b e = cc
@@ -18,7 +18,7 @@ not_two : (n : ℕ) → (suc (suc (suc n)) == 2) ≡ true → ⊥
 not_two n e = let bad : suc (suc (suc n)) ≡ 2 = (Decides-eqb (suc (suc (suc n))) 2).0 e in absurd (omega arith)
 
 -- the values of the options, in order
-pub record Filled (items : List Item) (l : CommandLine) : Type 0 where
+pub record Filled (items : List CommandItem) (l : CommandLine) : Type 0 where
   pub size : l.size ≡ given_text (codes "size") items
   pub workers : l.workers ≡ given_text (codes "workers") items
   pub block : l.block ≡ given_text (codes "block") items
@@ -27,7 +27,7 @@ pub record Filled (items : List Item) (l : CommandLine) : Type 0 where
   pub wires : l.wires ≡ given_text (codes "wires") items
   pub tallies : l.tallies ≡ has_flag items
 
-fill : (ps : List Text) (items : List Item) (l : CommandLine) → (length ps == 2) ≡ true → Some l.task ≡ slice_get ps 0 → Some l.argument ≡ slice_get ps 1 → Filled items l
+fill : (ps : List Text) (items : List CommandItem) (l : CommandLine) → (length ps == 2) ≡ true → Some l.task ≡ slice_get ps 0 → Some l.argument ≡ slice_get ps 1 → Filled items l
     → Some l ≡ two_words ps items
 fill [] items l n t a f = absurd (none_of_some l.task t)
 fill (x ∷ []) items l n t a f = absurd (none_of_some l.argument a)
@@ -47,7 +47,7 @@ fill (x ∷ y ∷ []) items l n t a f =
     })
 fill (x ∷ y ∷ z ∷ ps) items l n t a f = absurd (not_two (length ps) n)
 
-pub filled : (items : List Item) (l : CommandLine) → is_complete items ≡ true → Some l.task ≡ slice_get (positionals items) 0 → Some l.argument ≡ slice_get (positionals items) 1 → Filled items l
+pub filled : (items : List CommandItem) (l : CommandLine) → is_complete items ≡ true → Some l.task ≡ slice_get (positionals items) 0 → Some l.argument ≡ slice_get (positionals items) 1 → Filled items l
     → Some l ≡ command_line_of items
 filled items l complete t a f =
     let b = both_true (length (positionals items) == 2) (all_differ (names_given items)) complete in
@@ -59,5 +59,5 @@ two_there [] n = absurd (true≢false (sym n))
 two_there (x ∷ []) n = absurd (true≢false (sym n))
 two_there (x ∷ y ∷ ps) n = (none_of_some x, none_of_some y)
 
-pub both_there : (items : List Item) → is_complete items ≡ true → (slice_get (positionals items) 0 ≡ None → ⊥) × (slice_get (positionals items) 1 ≡ None → ⊥)
+pub both_there : (items : List CommandItem) → is_complete items ≡ true → (slice_get (positionals items) 0 ≡ None → ⊥) × (slice_get (positionals items) 1 ≡ None → ⊥)
 both_there items complete = two_there (positionals items) (both_true (length (positionals items) == 2) (all_differ (names_given items)) complete).0

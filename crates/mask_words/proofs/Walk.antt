@@ -13,7 +13,7 @@ use Rattle.mask_words.specs.Command.{mask_command, option_rule, flag_rule, requi
 use Rattle.std.proofs.lemmas.Str.{encodes-chars, IsUtf8-past_char, encode_ascii}
 use Rattle.std.proofs.lemmas.Bool.Decides.{Decides-eqb}
 use Rattle.std.proofs.lemmas.List.Elements.{All-head, All-tail}
-use Rattle.mask_words.specs.Reading.{is_lone, after, other_item, long_item, Item, Text, begins_with_hyphen, is_option, items_from}
+use Rattle.mask_words.specs.Reading.{is_lone, after, other_item, long_item, CommandItem, Text, begins_with_hyphen, is_option, items_from}
 use Rattle.clap.specs.Lexer.{long_of, short_of}
 use Rattle.clap.specs.Walk as walks
 
@@ -202,11 +202,11 @@ by_name name =
 
 -- ---- what is put for each item
 
-unfoldable pub put : List Item → Place → List Row → Option (List Row)
+unfoldable pub put : List CommandItem → Place → List Row → Option (List Row)
 put [] k rows = Some rows
-put (Item.positional x ∷ items) k rows = at_next (put items) k x rows
-put (Item.option name x ∷ items) k rows = option_and_then (put items k) (use_once (option_built name) x rows)
-put (Item.flag ∷ items) k rows = option_and_then (put items k) (if has_row (codes "tallies") rows then None else Some (used flag_built [] rows))
+put (CommandItem.positional x ∷ items) k rows = at_next (put items) k x rows
+put (CommandItem.option name x ∷ items) k rows = option_and_then (put items k) (use_once (option_built name) x rows)
+put (CommandItem.flag ∷ items) k rows = option_and_then (put items k) (if has_row (codes "tallies") rows then None else Some (used flag_built [] rows))
 
 -- a plain word
 abbrev pub IsPlainWord : Text → Type 0
@@ -419,7 +419,7 @@ some_short (a ∷ b ∷ rest) c h p q = split (b == 45) (λ d. absurd (long_part
 
 -- ---- the items that are read are put
 
-abbrev pub reads : Option (List Item) → Place → List Row → Option (List Row)
+abbrev pub reads : Option (List CommandItem) → Place → List Row → Option (List Row)
 reads o k rows = option_and_then (λ items. put items k rows) o
 
 pub and_then_same : {A B : Type 0} (f g : A → Option B) (o : Option A) → ((a : A) → f a ≡ g a) → option_and_then f o ≡ option_and_then g o
@@ -430,18 +430,18 @@ pub and_then_none : {A B : Type 0} (o : Option A) → option_and_then (λ (a : A
 and_then_none (Some a) = refl
 and_then_none None = refl
 
-pub put_all : (xs : List Text) (k : Place) (rows : List Row) → put_words xs k rows ≡ put (map Item.positional xs) k rows
+pub put_all : (xs : List Text) (k : Place) (rows : List Row) → put_words xs k rows ≡ put (map CommandItem.positional xs) k rows
 unfolding put put_words
 put_all [] k rows = refl
 put_all (x ∷ xs) k rows = and_then_same _ _ (at_place k) (λ a. and_then_same _ _ (use_once a x rows) (λ after. put_all xs (next_place k) after))
 
-pub reads_positional : (x : Text) (o : Option (List Item)) (k : Place) (rows : List Row) → at_next (reads o) k x rows ≡ reads (after (Item.positional x) o) k rows
+pub reads_positional : (x : Text) (o : Option (List CommandItem)) (k : Place) (rows : List Row) → at_next (reads o) k x rows ≡ reads (after (CommandItem.positional x) o) k rows
 unfolding put
 reads_positional x (Some items) k rows = refl
 reads_positional x None k rows = and_then_same _ _ (at_place k) (λ a. and_then_none (use_once a x rows)) ∙ and_then_none (at_place k)
 
-pub reads_option : (n v : Text) (o : Option (List Item)) (k : Place) (rows : List Row)
-    → option_and_then (reads o k) (use_once (option_built n) v rows) ≡ reads (after (Item.option n v) o) k rows
+pub reads_option : (n v : Text) (o : Option (List CommandItem)) (k : Place) (rows : List Row)
+    → option_and_then (reads o k) (use_once (option_built n) v rows) ≡ reads (after (CommandItem.option n v) o) k rows
 unfolding put
 reads_option n v (Some items) k rows = refl
 reads_option n v None k rows = and_then_none (use_once (option_built n) v rows)
@@ -449,8 +449,8 @@ reads_option n v None k rows = and_then_none (use_once (option_built n) v rows)
 abbrev pub flag_once : List Row → Option (List Row)
 flag_once rows = if has_row (codes "tallies") rows then None else Some (used flag_built [] rows)
 
-pub reads_flag : (o : Option (List Item)) (k : Place) (rows : List Row)
-    → option_and_then (reads o k) (flag_once rows) ≡ reads (after Item.flag o) k rows
+pub reads_flag : (o : Option (List CommandItem)) (k : Place) (rows : List Row)
+    → option_and_then (reads o k) (flag_once rows) ≡ reads (after CommandItem.flag o) k rows
 unfolding put
 reads_flag (Some items) k rows = refl
 reads_flag None k rows = and_then_none (flag_once rows)
@@ -463,9 +463,9 @@ WaitEnds xs = (k : Place) (rows : List Row) (name : Text) → is_option name ≡
     → end_of (at (waits_for rows name) (option name) (number k) false) xs ≡ reads (items_from (Some name) xs) k rows
 
 -- what `end_of` is for words that come to no items
-pub refused_idle : (k : Place) (h : Held) (xs : List Text) (o : Option (List Item)) → o ≡ None → end_of (at h idle (number k) false) xs ≡ None
+pub refused_idle : (k : Place) (h : Held) (xs : List Text) (o : Option (List CommandItem)) → o ≡ None → end_of (at h idle (number k) false) xs ≡ None
     → end_of (at h idle (number k) false) xs ≡ option_and_then (reads o k) (settle h)
-refused_idle k h xs o is end = end ∙ sym (ap (λ (o : Option (List Item)). option_and_then (reads o k) (settle h)) is ∙ and_then_none (settle h))
+refused_idle k h xs o is end = end ∙ sym (ap (λ (o : Option (List CommandItem)). option_and_then (reads o k) (settle h)) is ∙ and_then_none (settle h))
 
 pub long_idle : (x : Text) (xs : List Text) (k : Place) (h : Held) (n : Text) (v : Option Text) → h.skip ≡ 0 → bytes_eq x (codes "--") ≡ false → long_of x ≡ Some (n, v)
     → IdleEnds xs → WaitEnds xs
@@ -490,7 +490,7 @@ other_idle x xs k h c z p idles waits None q = split (begins_with_hyphen x)
     rw b (to_place (reads (items_from None xs)) k h idle false x xs z (plain_fine x h plain) (plain_met (number k) x h plain) (idles (next_place k)) ∙ and_then_same _ _ (settle h) (λ rows. reads_positional x (items_from None xs) k rows)))
 
 pub dashes_idle : (x : Text) (xs : List Text) (k : Place) (h : Held) → h.skip ≡ 0 → bytes_eq x (codes "--") ≡ true
-    → end_of (at h idle (number k) false) (x ∷ xs) ≡ option_and_then (reads (Some (map Item.positional xs)) k) (settle h)
+    → end_of (at h idle (number k) false) (x ∷ xs) ≡ option_and_then (reads (Some (map CommandItem.positional xs)) k) (settle h)
 unfolding end_of walked
 dashes_idle x xs k h z p = rw p (trailing_ends xs k idle h z ∙ and_then_same _ _ (settle h) (λ rows. put_all xs k rows))
 

@@ -3,7 +3,7 @@
 ghost use Rattle.std.specs.Prelude.{◌≡◌, IfOk, true, List, map, drop, option_map, string_bytes};
 ghost use Rattle.std.specs.List.{list_any};
 ghost use Rattle.clap.specs.Words.{found_of, rows_of};
-ghost use Rattle.mask_words.specs.Reading.{Holds, Item, is_complete, is_lone, command_line, command_line_of};
+ghost use Rattle.mask_words.specs.Reading.{Holds, CommandItem, is_complete, is_lone, command_line, command_line_of};
 ghost use Rattle.mask_words.specs.Shown.{shown};
 
 use crate::command::mask_command;
@@ -41,7 +41,7 @@ fn has_lone(words: &[String]) -> bool
 }
 
 fn from_matches<'a>(matches: &ArgMatches<'a>) -> Option<Given<'a>>
-    ensures { (items : List Item) → Holds items (rows_of (found_of matches.now)) →
+    ensures { (items : List CommandItem) → Holds items (rows_of (found_of matches.now)) →
         is_complete items ≡ true → option_map shown result ≡ command_line_of items }
 {
     Some(Given {

@@ -5,7 +5,7 @@ ghost use Rattle.gadget_model.specs.Circuit.{Circuit};
 ghost use Rattle.gadget_model.specs.Simulation.{IsSimulatable, IsWithin};
 ghost use Rattle.tuple_model.specs.Limits.{most_size};
 ghost use Rattle.wire_table.specs.Tables.{StandsFor};
-ghost use Rattle.wire_table.specs.Items.{item_of, variables_in, HasFewVariables, HasVariablesBelow};
+ghost use Rattle.wire_table.specs.Items.{item_of, variables_in, ObservesFew, HasVariablesBelow};
 ghost use Rattle.needed.specs.Others.{most_others};
 
 use crate::elimination::Elimination;
@@ -47,7 +47,7 @@ impl<'t> ItemScratch<'t> {
     pub fn needed(&mut self, list: &[Item], tuple: &[u16], others: &[u16]) -> u64
         requires there { All (λ i. i < length list.now) tuple.now }
         requires short { length tuple.now ≤ most_size }
-        requires few { All HasFewVariables (map item_of list.now) }
+        requires few { All ObservesFew (map item_of list.now) }
         requires variables { All (HasVariablesBelow (length self.old.random_rows)) (map item_of list.now) }
         requires few_others { length others.now ≤ most_others }
         requires others { All (λ v. v < length self.old.random_rows) others.now }
@@ -64,7 +64,7 @@ impl<'t> ItemScratch<'t> {
 fn put_vars(list: &[Item], tuple: &[u16], others: &[u16], vars: &mut ArrayVec<u16, MOST_ROWS>)
     requires there { All (λ i. i < length list.now) tuple.now }
     requires short { length tuple.now ≤ most_size }
-    requires few { All HasFewVariables (map item_of list.now) }
+    requires few { All ObservesFew (map item_of list.now) }
     requires few_others { length others.now ≤ most_others }
     ensures { vars.new.items ≡ variables_in (map item_of list.now) tuple.now ++ others.now }
 {

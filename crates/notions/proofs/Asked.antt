@@ -10,11 +10,11 @@ use Rattle.tuple_model.specs.Limits.{most_size}
 use Rattle.tuple_model.specs.Tuples.{IsTuple}
 use Rattle.tuple_model.proofs.Rising.{IsRising-member}
 use Rattle.wire_table.specs.Tables.{Table, StandsFor}
-use Rattle.wire_table.specs.Items.{Item, item_of, HasFewVariables, HasVariablesBelow, variables_in}
+use Rattle.wire_table.specs.Items.{Item, item_of, ObservesFew, HasVariablesBelow, variables_in}
 use Rattle.wire_table.specs.declared.item.Item as code
 use Rattle.notions.specs.declared.notion.Notion.{Notion}
 use Rattle.notions.specs.declared.query.NotionQuery.TheInside.{Inside}
-use Rattle.notions.specs.Inside.{question_of, IsPrepared, HasSmallIndex}
+use Rattle.notions.specs.Inside.{notion_asked, IsPreparedNotion, HasSmallIndex}
 use Rattle.notions.specs.Items.{items_of}
 use Rattle.notions.specs.Questions.{NotionQuestion, FailsFor, items_asked}
 use Rattle.notions.specs.Notions.{Grants, Passes}
@@ -31,7 +31,7 @@ IsGrantedTest notion inputs t items tuple set granted =
     (g : Circuit) → length g.inputs ≡ inputs → IsTrue granted ↔ Grants notion g t items tuple set
 
 -- The query holds the items, and is asked about a tuple of them.
-module _ (q : NotionQuestion) (i : Inside) (seen : question_of i ≡ q) (ready : IsPrepared i) (t : List ℕ) (tuple : IsTuple (length (items_asked q)) q.t t) where
+module _ (q : NotionQuestion) (i : Inside) (seen : notion_asked i ≡ q) (ready : IsPreparedNotion i) (t : List ℕ) (tuple : IsTuple (length (items_asked q)) q.t t) where
   items_are : (list : List code.Item) → list ≡ i.list.items → map item_of list ≡ items_asked q
   items_are list same = ap (map item_of) same ∙ ready.items ∙ ap items_asked seen
 
@@ -49,8 +49,8 @@ module _ (q : NotionQuestion) (i : Inside) (seen : question_of i ≡ q) (ready :
         omega arith in
         subst (All (λ k. k < length list)) (sym e) there
 
-    pub few_variables_asked : All HasFewVariables (map item_of list)
-    few_variables_asked = subst (All HasFewVariables) (sym of_items) ready.few_variables
+    pub few_variables_asked : All ObservesFew (map item_of list)
+    few_variables_asked = subst (All ObservesFew) (sym of_items) ready.few_variables
 
     pub small_indices_asked : All HasSmallIndex (map item_of list)
     small_indices_asked = subst (All HasSmallIndex) (sym of_items) ready.indices

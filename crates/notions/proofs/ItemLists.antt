@@ -12,7 +12,7 @@ use Rattle.gadget_tree.specs.Gadgets.{IsGadget}
 use Rattle.list_laws.proofs.Members.{AllPairs-append}
 use Rattle.list_laws.proofs.Once.{Once, Contains-from_filter}
 use Rattle.tuple_model.specs.Limits.{most_items}
-use Rattle.wire_table.specs.Items.{Item, HasFewVariables, HasVariablesBelow, numbers, output_index, kind_of}
+use Rattle.wire_table.specs.Items.{Item, ObservesFew, HasVariablesBelow, numbers, output_index, kind_of}
 use Rattle.wire_table.proofs.Pigeonhole.{length-le}
 use Rattle.notions.specs.declared.notion.Notion.{Notion}
 use Rattle.notions.specs.Inside.{HasSmallIndex, IsSmallKind}
@@ -27,7 +27,7 @@ None-from_is_none (Some x) h = cc
 
 -- what fits of an item
 record Fits (variables : ℕ) (item : Item) : Type 0 where
-  pub few : HasFewVariables item
+  pub few : ObservesFew item
   pub there : HasVariablesBelow variables item
   pub index : HasSmallIndex item
 
@@ -80,8 +80,8 @@ module _ (g : Circuit) (is : IsGadget g) where
   unfolding items_of
   Fits-items notion = Fits-by (has_columns notion)
 
-  pub few_variables : (notion : Notion) → All HasFewVariables (items_of notion g)
-  few_variables notion = All-weaker (Fits (length g.variables)) HasFewVariables (λ item f. f.few) (items_of notion g) (Fits-items notion)
+  pub few_variables : (notion : Notion) → All ObservesFew (items_of notion g)
+  few_variables notion = All-weaker (Fits (length g.variables)) ObservesFew (λ item f. f.few) (items_of notion g) (Fits-items notion)
 
   pub variables_below : (notion : Notion) → All (HasVariablesBelow (length g.variables)) (items_of notion g)
   variables_below notion =

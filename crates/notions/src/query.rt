@@ -38,11 +38,11 @@ impl<'g> Model for NotionQuery<'g> {
 
     ghost Value = { NotionQuestion };
 
-    ghost use Rattle.notions.specs.Inside.{question_of, IsPrepared};
+    ghost use Rattle.notions.specs.Inside.{notion_asked, IsPreparedNotion};
 
-    ghost view = { question_of };
+    ghost view = { notion_asked };
 
-    ghost invariant = { IsPrepared };
+    ghost invariant = { IsPreparedNotion };
 }
 
 impl<'g> NotionQuery<'g> {

@@ -5,7 +5,7 @@ use Rattle.gadget_model.specs.Circuit.{Circuit, share, random, sum_of}
 use Rattle.wire_table.specs.declared.item.ItemKind.TheVariants.{Internal}
 use Rattle.wire_table.specs.declared.which.Which.TheVariants.{Any, Input, Both}
 use Rattle.needed.specs.ShareCounts.{shares_of}
-use Rattle.rp_events.specs.Failing.{Exceeds, output_share, shares_in, simulated}
+use Rattle.rp_events.specs.Failing.{Exceeds, output_variable, shares_in, simulated}
 
 -- two shares of one input, refreshed and not: shares a0 and a1, a random r, and the outputs c = (a0 + r, a1 + r)
 -- and d = (a0, a1)
@@ -26,8 +26,8 @@ refreshed = record {
 }
 
 -- share 1 of the second output
-output_share-second : output_share refreshed 17 ≡ 1
-output_share-second = refl
+output_variable-second : output_variable refreshed 17 ≡ 1
+output_variable-second = refl
 
 -- no share, and share 0 of the first output with share 1 of the second
 shares_in-none : shares_in refreshed 0 ≡ []

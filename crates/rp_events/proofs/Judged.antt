@@ -11,12 +11,12 @@ use Rattle.needed.specs.Others.{most_others}
 use Rattle.rp_events.specs.declared.query.EventQuery.TheInside.{Inside}
 use Rattle.rp_events.specs.Failing.{IsOutputSet, PassesEvent, shares_in}
 use Rattle.rp_events.specs.Questions.{EventQuestion, FailsAsked, leaking_items}
-use Rattle.rp_events.specs.Inside.{question_of, IsPrepared, AllExceed, SomeDoNotExceed}
+use Rattle.rp_events.specs.Inside.{event_asked, IsPreparedEvent, AllExceed, SomeDoNotExceed}
 use Rattle.rp_events.proofs.Exceeding.{numbers_held, FailsEvent-all, PassesEvent-some, not_FailsEvent-from_PassesEvent}
 use Rattle.rp_events.proofs.OutputShares.{length-shares_in-le, shares_in-below}
 
 -- a query, its fields, and the table of a scratch that fits it
-module _ (q : EventQuestion) (i : Inside) (seen : question_of i ≡ q) (ready : IsPrepared i) (scratch : Table) (fits : scratch ≡ q.table) where
+module _ (q : EventQuestion) (i : Inside) (seen : event_asked i ≡ q) (ready : IsPreparedEvent i) (scratch : Table) (fits : scratch ≡ q.table) where
   stands : StandsFor scratch q.gadget
   stands =
       let P : EventQuestion → Type 0 = λ c. StandsFor c.table c.gadget in

@@ -53,8 +53,8 @@ set_from output (indices ∷ others) =
 
 -- the sets of an event that gives this of each output, by the shares of the first output and then by those of the
 -- second
-abbrev pub sets_of : ℕ → List Given → List ℕ
-sets_of n given = map (set_from 0) (selections (map (chosen n) given))
+abbrev pub event_sets : ℕ → List Given → List ℕ
+event_sets n given = map (set_from 0) (selections (map (chosen n) given))
 
 -- the indices that are given of an output
 abbrev pub indices_given : Given → List ℕ
@@ -85,7 +85,7 @@ event_word Rpe given which = codes "rpe" ++ flat_map mode_digit given ++ codes "
 abbrev pub event_with : Circuit → Rp → List Given → Which → Event
 event_with g rp given which = record {
   name = event_word rp given which ++ given_words g 0 given;
-  sets = sets_of g.shares given;
+  sets = event_sets g.shares given;
   which = which;
 }
 

@@ -17,12 +17,12 @@ Exceeds g t (Input k) set = t < shares_of k set
 Exceeds g t Both set = (t < shares_of 0 set) × (t < shares_of 1 set)
 
 -- the variable of the output share with a number, 16 * output + index
-abbrev pub output_share : Circuit → ℕ → ℕ
-output_share g k = slice_index_or g.output_shares (g.shares * (k / 16) + k % 16) 0
+abbrev pub output_variable : Circuit → ℕ → ℕ
+output_variable g k = slice_index_or g.output_shares (g.shares * (k / 16) + k % 16) 0
 
 -- the variables of a set of output shares, in order
 abbrev pub shares_in : Circuit → ℕ → List ℕ
-shares_in g set = map (output_share g) (filter (λ k. bit_at set k == 1) (range_with_len 0 32))
+shares_in g set = map (output_variable g) (filter (λ k. bit_at set k == 1) (range_with_len 0 32))
 
 -- what has to be simulated: the variables of a tuple's items, and then the output shares of a set
 abbrev pub simulated : Circuit → List Item → List ℕ → ℕ → List ℕ

@@ -6,7 +6,7 @@ use Rattle.gadget_model.specs.Simulation.{IsSimulatable}
 use Rattle.gadget_tree.specs.Gadgets.{IsGadget}
 use Rattle.tuple_model.specs.Limits.{most_items, most_size}
 use Rattle.wire_table.specs.Tables.{StandsFor}
-use Rattle.wire_table.specs.Items.{item_of, HasFewVariables, HasVariablesBelow}
+use Rattle.wire_table.specs.Items.{item_of, ObservesFew, HasVariablesBelow}
 use Rattle.wire_table.specs.Uses.{wire_items}
 use Rattle.wire_table.specs.declared.which.Which.{Which}
 use Rattle.wire_table.specs.declared.which.Which.TheVariants.{Any, Input, Both}
@@ -15,8 +15,8 @@ use Rattle.rp_events.specs.Events.{event_of}
 use Rattle.rp_events.specs.Failing.{Exceeds, AreOutputSets, shares_in}
 use Rattle.rp_events.specs.Questions.{EventQuestion}
 
-abbrev pub question_of : Inside → EventQuestion
-question_of q = record {
+abbrev pub event_asked : Inside → EventQuestion
+event_asked q = record {
   event = event_of q.event.now;
   gadget = q.gadget.now;
   table = q.table.now;
@@ -45,7 +45,7 @@ SomeDoNotExceed g t which variables lists =
 -- The table stands for the gadget, the size is small, the event's sets are of output shares, an input that it asks of
 -- is small, the items are the wires', and the lists of output shares are those of the sets. The items are few, and each
 -- fits what the test works in.
-pub record IsPrepared (q : Inside) : Type 0 where
+pub record IsPreparedEvent (q : Inside) : Type 0 where
   pub gadget : IsGadget q.gadget.now
   pub table : StandsFor q.table.now q.gadget.now
   pub small : q.size ≤ most_size
@@ -53,6 +53,6 @@ pub record IsPrepared (q : Inside) : Type 0 where
   pub which : IsSmallWhich q.event.now.which
   pub items : map item_of q.list.items ≡ wire_items q.wires q.gadget.now
   pub few_items : length (wire_items q.wires q.gadget.now) ≤ most_items
-  pub few_variables : All HasFewVariables (wire_items q.wires q.gadget.now)
+  pub few_variables : All ObservesFew (wire_items q.wires q.gadget.now)
   pub variables : All (HasVariablesBelow (length q.gadget.now.variables)) (wire_items q.wires q.gadget.now)
   pub lists : map (λ vars. vars.items) q.outputs.items ≡ map (shares_in q.gadget.now) q.event.now.sets.items

@@ -5,7 +5,7 @@ ghost use Rattle.gadget_limits.specs.Limits.{most_inputs};
 ghost use Rattle.gadget_model.specs.Circuit.{Circuit};
 ghost use Rattle.tuple_model.specs.Limits.{most_size};
 ghost use Rattle.wire_table.specs.Tables.{StandsFor};
-ghost use Rattle.wire_table.specs.Items.{item_of, variables_in, HasFewVariables, HasVariablesBelow};
+ghost use Rattle.wire_table.specs.Items.{item_of, variables_in, ObservesFew, HasVariablesBelow};
 ghost use Rattle.needed.specs.Others.{most_others};
 ghost use Rattle.needed.specs.ShareCounts.{shares_of};
 ghost use Rattle.rp_events.specs.Failing.{Exceeds};
@@ -29,7 +29,7 @@ pub(crate) fn all_exceed(
     requires which { IsSmallWhich which }
     requires there { All (λ i. i < length list.now) tuple.now }
     requires short { length tuple.now ≤ most_size }
-    requires few { All HasFewVariables (map item_of list.now) }
+    requires few { All ObservesFew (map item_of list.now) }
     requires variables { All (HasVariablesBelow (length scratch.old.random_rows)) (map item_of list.now) }
     requires few_others { All (λ others. length others.items ≤ most_others) lists.now }
     requires others { All (λ others. All (λ v. v < length scratch.old.random_rows) others.items) lists.now }

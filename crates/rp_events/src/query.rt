@@ -43,11 +43,11 @@ impl<'g> Model for EventQuery<'g> {
 
     ghost Value = { EventQuestion };
 
-    ghost use Rattle.rp_events.specs.Inside.{question_of, IsPrepared};
+    ghost use Rattle.rp_events.specs.Inside.{event_asked, IsPreparedEvent};
 
-    ghost view = { question_of };
+    ghost view = { event_asked };
 
-    ghost invariant = { IsPrepared };
+    ghost invariant = { IsPreparedEvent };
 }
 
 impl<'g> EventQuery<'g> {

@@ -13,9 +13,9 @@ use Rattle.tuple_model.proofs.Picking.{Picks-unique}
 use Rattle.tuple_model.proofs.Rising.{IsRising-from_higher}
 use Rattle.tuple_model.proofs.Subsets.{member-from_subset}
 use Rattle.tuple_model.proofs.Answers.{answered, minimal-from_answer}
-use Rattle.wire_counts.specs.Coefficients.{Wire, copies, item_wires, sets_of, items_of, IsCoefficient, AreCoefficients}
+use Rattle.wire_counts.specs.Coefficients.{Wire, copies, item_wires, sets_of_size, items_of_wires, IsCoefficient, AreCoefficients}
 use Rattle.wire_counts.specs.Laws.{IsInherited}
-use Rattle.wire_counts.proofs.Sets.{join, join-equal, join-other, items_of-cons, copies_from}
+use Rattle.wire_counts.proofs.Sets.{join, join-equal, join-other, items_of_wires-cons, copies_from}
 
 -- facts that agree on the elements pick the same
 Picks-same : {X : Type 0} (P Q : X → Type 0) (xs picked : List X) → ((x : X) → Contains xs x → P x ↔ Q x) → Picks P xs picked → Picks Q xs picked
@@ -34,15 +34,15 @@ AreInOrder-lower : (low more high : ℕ) (xs : List Wire) → low ≤ more → A
 AreInOrder-lower low more high [] l h = tt
 AreInOrder-lower low more high (x ∷ xs) l h = (omega arith, h.1, h.2)
 
-AreInOrder-set : (low high size : ℕ) (xs set : List Wire) → AreInOrder low high xs → Contains (sets_of size xs) set → AreInOrder low high set × (length set ≡ size)
+AreInOrder-set : (low high size : ℕ) (xs set : List Wire) → AreInOrder low high xs → Contains (sets_of_size size xs) set → AreInOrder low high set × (length set ≡ size)
 AreInOrder-set low high zero xs set h k = elim (Contains-cons_cases [] [] set k) [
   | inl e ↦ subst (λ (s : List Wire). AreInOrder low high s × (length s ≡ 0)) e (tt, refl)
   | inr n ↦ absurd (Contains-nil set n)
 ]
 AreInOrder-set low high (suc size) [] set h k = absurd (Contains-nil set k)
-AreInOrder-set low high (suc size) (x ∷ xs) set h k = elim (Contains-append_cases (map (λ (s : List Wire). x ∷ s) (sets_of size xs)) (sets_of (suc size) xs) set k) [
+AreInOrder-set low high (suc size) (x ∷ xs) set h k = elim (Contains-append_cases (map (λ (s : List Wire). x ∷ s) (sets_of_size size xs)) (sets_of_size (suc size) xs) set k) [
   | inl m ↦
-      let r = Contains-from_map (λ (s : List Wire). x ∷ s) (sets_of size xs) set m in
+      let r = Contains-from_map (λ (s : List Wire). x ∷ s) (sets_of_size size xs) set m in
       let i = AreInOrder-set x.item high size xs r.0 h.2 r.1 in
       subst (λ (s : List Wire). AreInOrder low high s × (length s ≡ suc size)) r.2 ((h.0, h.1, i.0), ap suc i.1)
   | inr m ↦ AreInOrder-set low high (suc size) xs set (AreInOrder-lower low x.item high xs h.0 h.2) m
@@ -63,11 +63,11 @@ IsJoined-join low high size x (y ∷ t) l m h = elim (cases_eq x y) [
       subst (IsJoined low high (suc size)) (sym (join-other x y t other)) ((l, m, (omega arith, h.0.1, h.0.2)), omega (arith, h.1))
 ]
 
-IsJoined-items : (low high : ℕ) (set : List Wire) → AreInOrder low high set → IsJoined low high (length set) (items_of set)
+IsJoined-items : (low high : ℕ) (set : List Wire) → AreInOrder low high set → IsJoined low high (length set) (items_of_wires set)
 IsJoined-items low high [] h = (tt, omega arith)
 IsJoined-items low high (x ∷ set) h =
-    subst (IsJoined low high (suc (length set))) (sym (items_of-cons x set))
-    (IsJoined-join low high (length set) x.item (items_of set) h.0 h.1 (IsJoined-items x.item high set h.2))
+    subst (IsJoined low high (suc (length set))) (sym (items_of_wires-cons x set))
+    (IsJoined-join low high (length set) x.item (items_of_wires set) h.0 h.1 (IsJoined-items x.item high set h.2))
 
 AreInOrder-copies : (item start weight high : ℕ) (rest : List Wire) → item < high → AreInOrder item high rest → AreInOrder item high (copies_from item start weight ++ rest)
 AreInOrder-copies item start zero high rest l h = h
@@ -81,7 +81,7 @@ AreInOrder-wires weight (suc room) low high e =
     (AreInOrder-lower low (low + 1) high rest (omega arith) (AreInOrder-wires weight room (low + 1) high (omega arith)))
 
 -- the items of a set of wires are a tuple of at most as many items
-pub IsTuple-items : (weights : List ℕ) (i : ℕ) (set : List Wire) → Contains (sets_of i (item_wires weights)) set → IsTuple (length weights) i (items_of set)
+pub IsTuple-items : (weights : List ℕ) (i : ℕ) (set : List Wire) → Contains (sets_of_size i (item_wires weights)) set → IsTuple (length weights) i (items_of_wires set)
 IsTuple-items weights i set h =
     let o = AreInOrder-set 0 (length weights) i (item_wires weights) set (AreInOrder-wires (slice_index weights) (length weights) 0 (length weights) (omega arith)) h in
     let j = IsJoined-items 0 (length weights) set o.0 in
@@ -92,8 +92,8 @@ IsCoefficient-same : (Fails Other : List ℕ → Type 0) (weights : List ℕ) (i
     ((t : List ℕ) → IsTuple (length weights) i t → Fails t ↔ Other t) → IsCoefficient Fails weights i n → IsCoefficient Other weights i n
 IsCoefficient-same Fails Other weights i n same h = record {
   failing = h.failing;
-  picked = Picks-same (λ set. Fails (items_of set)) (λ set. Other (items_of set)) (sets_of i (item_wires weights)) h.failing
-      (λ set k. same (items_of set) (IsTuple-items weights i set k)) h.picked;
+  picked = Picks-same (λ set. Fails (items_of_wires set)) (λ set. Other (items_of_wires set)) (sets_of_size i (item_wires weights)) h.failing
+      (λ set k. same (items_of_wires set) (IsTuple-items weights i set k)) h.picked;
   count = h.count;
 }
 
@@ -125,7 +125,7 @@ module _ (Fails : List ℕ → Type 0) where
   coefficient-unique : (weights : List ℕ) (i n m : ℕ) → IsCoefficient Fails weights i n → IsCoefficient Fails weights i m → n ≡ m
   coefficient-unique weights i n m h k =
       sym h.count ∙ ap (λ (sets : List (List Wire)). length sets)
-      (Picks-unique (λ set. Fails (items_of set)) (sets_of i (item_wires weights)) h.failing k.failing h.picked k.picked) ∙ k.count
+      (Picks-unique (λ set. Fails (items_of_wires set)) (sets_of_size i (item_wires weights)) h.failing k.failing h.picked k.picked) ∙ k.count
 
   pub coefficients-unique : (weights : List ℕ) (size : ℕ) (numbers others : List ℕ) → AreCoefficients Fails weights size numbers →
       AreCoefficients Fails weights size others → numbers ≡ others

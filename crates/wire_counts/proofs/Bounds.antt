@@ -11,19 +11,19 @@ use Rattle.std.proofs.lemmas.List.Sums.{get_or-le-sum_by}
 use Rattle.tuple_model.specs.Tuples.{IsTuple, tuples}
 use Rattle.tuple_model.proofs.Rising.{member-from_IsTuple}
 use Rattle.tuple_order.proofs.Counting.{ways}
-use Rattle.wire_counts.specs.Coefficients.{Wire, copies, item_wires, sets_of}
+use Rattle.wire_counts.specs.Coefficients.{Wire, copies, item_wires, sets_of_size}
 use Rattle.wire_counts.specs.Ways.{sets_with}
 use Rattle.wire_counts.proofs.Sums.{sum_by-one}
 use Rattle.wire_counts.proofs.ByTuples.{over-tuples}
 
-length-sets_of : {X : Type 0} (size : ℕ) (xs : List X) → length (sets_of size xs) ≡ ways size (length xs)
-length-sets_of zero xs = refl
-length-sets_of (suc size) [] = refl
-length-sets_of {X} (suc size) (x ∷ xs) =
-    let a = length-append (map (λ (s : List X). x ∷ s) (sets_of size xs)) (sets_of (suc size) xs) in
-    let b = length-map (sets_of size xs) (λ (s : List X). x ∷ s) in
-    let c = length-sets_of size xs in
-    let d = length-sets_of (suc size) xs in
+length-sets_of_size : {X : Type 0} (size : ℕ) (xs : List X) → length (sets_of_size size xs) ≡ ways size (length xs)
+length-sets_of_size zero xs = refl
+length-sets_of_size (suc size) [] = refl
+length-sets_of_size {X} (suc size) (x ∷ xs) =
+    let a = length-append (map (λ (s : List X). x ∷ s) (sets_of_size size xs)) (sets_of_size (suc size) xs) in
+    let b = length-map (sets_of_size size xs) (λ (s : List X). x ∷ s) in
+    let c = length-sets_of_size size xs in
+    let d = length-sets_of_size (suc size) xs in
     omega arith
 
 pub ways-pow : (size n : ℕ) → ways size n ≤ n ^ size
@@ -54,9 +54,9 @@ length-wires weight most (suc room) low h =
     omega arith
 
 pub sets-bounded : (weights : List ℕ) (size : ℕ) → length weights ≤ 511 → All (λ weight. weight ≤ 4096) weights → size ≤ 6 →
-    length (sets_of size (item_wires weights)) < 2 ^ 126
+    length (sets_of_size size (item_wires weights)) < 2 ^ 126
 sets-bounded weights size few small l =
-    let a = length-sets_of size (item_wires weights) in
+    let a = length-sets_of_size size (item_wires weights) in
     let n = length-wires (slice_index weights) 4096 (length weights) 0 (λ k m. All-get_or (λ weight. weight ≤ 4096) weights k 0 (omega arith) small) in
     let m : length weights * 4096 ≤ 2093056 = omega arith in
     let p : length (item_wires weights) ≤ 2093056 = omega arith in
@@ -73,6 +73,6 @@ sets_with-bounded weights t i few small is l =
     let a = get_or-le-sum_by (λ s. 1 * sets_with weights s i) (tuples (length weights) 6) m.0 t m.1 in
     let b = ap (λ (s : List ℕ). sets_with weights s i) m.2 in
     let c = over-tuples weights 6 i (λ s. 1) l in
-    let d = sum_by-one (sets_of i (item_wires weights)) in
+    let d = sum_by-one (sets_of_size i (item_wires weights)) in
     let e = sets-bounded weights i few small l in
     omega arith

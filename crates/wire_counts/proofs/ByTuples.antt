@@ -8,7 +8,7 @@ use Rattle.std.proofs.lemmas.Bool.{cases_lt, lt-ltb, le-ltb}
 use Rattle.tuple_model.specs.Tuples.{IsRising, rising, tuples}
 use Rattle.tuple_model.proofs.Rising.{IsRisingOfSize-from_member}
 use Rattle.wire_counts.specs.Coefficients.{Wire, copies, item_wires}
-use Rattle.wire_counts.specs.Ways.{chosen, mix, exact_sets, sets_with}
+use Rattle.wire_counts.specs.Ways.{ways_to_choose, mix, exact_sets, sets_with}
 use Rattle.wire_counts.proofs.Mixes.{mix-same, mix-add_right, mix-none_right, mix-times, mix-after_zeros, mix-zeros}
 use Rattle.wire_counts.proofs.Sums.{sum_by-map, sum_by-same}
 use Rattle.wire_counts.proofs.Sets.{join, join-other, over, later, outside}
@@ -33,7 +33,7 @@ IsRising-from (suc most) room low t h = elim (Contains-append_cases (from most r
 abbrev exactly : (ℕ → ℕ) → List ℕ → ℕ → ℕ
 exactly weight [] zero = 1
 exactly weight [] (suc i) = 0
-exactly weight (x ∷ t) i = later (mix (chosen (weight x)) (exactly weight t)) i
+exactly weight (x ∷ t) i = later (mix (ways_to_choose (weight x)) (exactly weight t)) i
 
 abbrev weigh : (ℕ → ℕ) → (List ℕ → ℕ) → List (List ℕ) → ℕ → ℕ
 weigh weight g ts i = sum_by (λ t. g t * exactly weight t i) ts
@@ -59,7 +59,7 @@ weigh-append weight g s t i = sum_by-append (λ t. g t * exactly weight t i) s t
 
 step_one : (weight : ℕ → ℕ) (g : List ℕ → ℕ) (size room low i : ℕ) →
     weigh weight g (rising (suc size) (suc room) low) i
-    ≡ later (mix (chosen (weight low)) (weigh weight (λ t. g (low ∷ t)) (rising size room (suc low)))) i + weigh weight g (rising (suc size) room (suc low)) i
+    ≡ later (mix (ways_to_choose (weight low)) (weigh weight (λ t. g (low ∷ t)) (rising size room (suc low)))) i + weigh weight g (rising (suc size) room (suc low)) i
 step_one weight g size room low zero =
     let a = sum_by-append (λ t. g t * exactly weight t 0) (map (λ (t : List ℕ). low ∷ t) (rising size room (suc low))) (rising (suc size) room (suc low)) in
     let b = sum_by-map (λ t. g t * exactly weight t 0) (λ (t : List ℕ). low ∷ t) (rising size room (suc low)) in
@@ -68,12 +68,12 @@ step_one weight g size room low zero =
 step_one weight g size room low (suc i) =
     let a = sum_by-append (λ t. g t * exactly weight t (suc i)) (map (λ (t : List ℕ). low ∷ t) (rising size room (suc low))) (rising (suc size) room (suc low)) in
     let b = sum_by-map (λ t. g t * exactly weight t (suc i)) (λ (t : List ℕ). low ∷ t) (rising size room (suc low)) in
-    let n = exchange weight (λ t. g (low ∷ t)) (chosen (weight low)) (rising size room (suc low)) i in
+    let n = exchange weight (λ t. g (low ∷ t)) (ways_to_choose (weight low)) (rising size room (suc low)) i in
     omega arith
 
 step : (weight : ℕ → ℕ) (g : List ℕ → ℕ) (most room low i : ℕ) →
     weigh weight g (from (suc most) (suc room) low) i
-    ≡ weigh weight g (from (suc most) room (suc low)) i + later (mix (chosen (weight low)) (weigh weight (λ t. g (low ∷ t)) (from most room (suc low)))) i
+    ≡ weigh weight g (from (suc most) room (suc low)) i + later (mix (ways_to_choose (weight low)) (weigh weight (λ t. g (low ∷ t)) (from most room (suc low)))) i
 step weight g zero room low i =
     let a = weigh-append weight g (from 0 (suc room) low) (rising 1 (suc room) low) i in
     let b = weigh-append weight g (from 0 room (suc low)) (rising 1 room (suc low)) i in
@@ -91,7 +91,7 @@ step weight g (suc most) room low (suc i) =
     let c = step_one weight g (suc most) room low (suc i) in
     let r = step weight g most room low (suc i) in
     let h : List ℕ → ℕ = λ t. g (low ∷ t) in
-    let w : ℕ → ℕ = chosen (weight low) in
+    let w : ℕ → ℕ = ways_to_choose (weight low) in
     let d = mix-add_right w (weigh weight h (from most room (suc low))) (weigh weight h (rising (suc most) room (suc low))) i in
     let e = mix-same w w (weigh weight h (from (suc most) room (suc low))) (λ j. weigh weight h (from most room (suc low)) j + weigh weight h (rising (suc most) room (suc low)) j) i
     (λ j l. refl) (λ j l. weigh-append weight h (from most room (suc low)) (rising (suc most) room (suc low)) j) in
@@ -114,7 +114,7 @@ wires_from weight room low = flat_map (λ item. copies (weight item) item) (rang
 
 first_item : (weight : ℕ → ℕ) (room low i : ℕ) (g : List ℕ → ℕ) →
     over g (wires_from weight (suc room) low) i
-    ≡ over g (wires_from weight room (suc low)) i + later (mix (chosen (weight low)) (over (λ t. g (join low t)) (wires_from weight room (suc low)))) i
+    ≡ over g (wires_from weight room (suc low)) i + later (mix (ways_to_choose (weight low)) (over (λ t. g (join low t)) (wires_from weight room (suc low)))) i
 first_item weight room low i g =
     let e : low + 1 ≡ suc low = omega arith in
     ap (λ (n : ℕ). over g (copies (weight low) low ++ wires_from weight room n) i) e ∙ outside low (weight low) (wires_from weight room (suc low)) g i
@@ -133,7 +133,7 @@ counted_from weight (suc room) low (suc most) (suc i) g l =
     let a = first_item weight room low (suc i) g in
     let b = step weight g most room low (suc i) in
     let r = counted_from weight room (suc low) (suc most) (suc i) g l in
-    let w : ℕ → ℕ = chosen (weight low) in
+    let w : ℕ → ℕ = ways_to_choose (weight low) in
     let e = mix-same w w (over (λ t. g (join low t)) (wires_from weight room (suc low))) (weigh weight (λ t. g (low ∷ t)) (from most room (suc low))) i
     (λ j k. refl) (λ j k. counted_from weight room (suc low) most j (λ t. g (join low t)) (omega arith)
     ∙ sum_by-same (λ t. g (join low t) * exactly weight t j) (λ t. g (low ∷ t) * exactly weight t j) (from most room (suc low))
@@ -144,13 +144,13 @@ counted_from weight (suc room) low (suc most) (suc i) g l =
 exactly-few : (weight : ℕ → ℕ) (t : List ℕ) (i : ℕ) → i < length t → exactly weight t i ≡ 0
 exactly-few weight [] i l = absurd (omega arith)
 exactly-few weight (x ∷ t) zero l = refl
-exactly-few weight (x ∷ t) (suc i) l = mix-zeros (chosen (weight x)) (exactly weight t) i (λ k m. exactly-few weight t k (omega arith))
+exactly-few weight (x ∷ t) (suc i) l = mix-zeros (ways_to_choose (weight x)) (exactly weight t) i (λ k m. exactly-few weight t k (omega arith))
 
 exactly-more : (weights t : List ℕ) (more : ℕ) → exactly (slice_index weights) t (more + length t) ≡ exact_sets weights t more
 exactly-more weights [] zero = refl
 exactly-more weights [] (suc more) = ap (exactly (slice_index weights) []) (let e : suc more + 0 ≡ suc more = omega arith in e)
 exactly-more weights (x ∷ t) more =
-    let w : ℕ → ℕ = chosen (slice_index weights x) in
+    let w : ℕ → ℕ = ways_to_choose (slice_index weights x) in
     let b : ℕ → ℕ = exactly (slice_index weights) t in
     let e : more + suc (length t) ≡ suc (more + length t) = omega arith in
     ap (λ (n : ℕ). exactly (slice_index weights) (x ∷ t) n) e

@@ -8,7 +8,7 @@ use Rattle.list_laws.proofs.Once.{Contains-nil}
 use Rattle.tuple_model.specs.Tuples.{IsSubset, tuples}
 use Rattle.tuple_model.specs.Minimal.{Picks}
 use Rattle.tuple_model.specs.Antichains.{Covers}
-use Rattle.wire_counts.specs.Coefficients.{item_wires, sets_of, items_of, IsCoefficient}
+use Rattle.wire_counts.specs.Coefficients.{item_wires, sets_of_size, items_of_wires, IsCoefficient}
 use Rattle.wire_counts.specs.Ways.{sets_with}
 use Rattle.wire_counts.proofs.ByTuples.{over-tuples}
 
@@ -80,7 +80,7 @@ covered list t = one_where (covers_or_not list t)
 pub coefficient-covered : (list : List (List ℕ)) (weights : List ℕ) (size i n : ℕ) → i ≤ size →
     n ≡ sum_by (λ t. covered list t * sets_with weights t i) (tuples (length weights) size) → IsCoefficient (Covers list) weights i n
 coefficient-covered list weights size i n l e =
-    let r = picked-settled (λ set. Covers list (items_of set)) (λ set. covers_or_not list (items_of set)) (sets_of i (item_wires weights)) in
+    let r = picked-settled (λ set. Covers list (items_of_wires set)) (λ set. covers_or_not list (items_of_wires set)) (sets_of_size i (item_wires weights)) in
     record { failing = r.0; picked = r.1; count = r.2 ∙ over-tuples weights size i (covered list) l ∙ sym e }
 
 pub covered_at_most : (list : List (List ℕ)) (t : List ℕ) (n : ℕ) → covered list t * n ≤ 1 * n

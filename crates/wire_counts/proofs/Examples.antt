@@ -1,6 +1,6 @@
 -- The definitions at small numbers.
 use Rattle.std.proofs.Common.{◌≡◌, ℕ, List, [], ◌∷◌, refl, inl, inr}
-use Rattle.wire_counts.specs.Coefficients.{item_wires, sets_of, items_of, IsCoefficient}
+use Rattle.wire_counts.specs.Coefficients.{item_wires, sets_of_size, items_of_wires, IsCoefficient}
 use Rattle.wire_counts.specs.Ways.{sets_with}
 
 -- two items, of which the second stands for two wires
@@ -10,10 +10,10 @@ wires-of_two = refl
 wires-of_none : item_wires (0 ∷ 1 ∷ []) ≡ record { item = 1; copy = 0 } ∷ []
 wires-of_none = refl
 
-pairs : sets_of {X = ℕ} 2 (0 ∷ 1 ∷ 2 ∷ []) ≡ (0 ∷ 1 ∷ []) ∷ (0 ∷ 2 ∷ []) ∷ (1 ∷ 2 ∷ []) ∷ []
+pairs : sets_of_size {X = ℕ} 2 (0 ∷ 1 ∷ 2 ∷ []) ≡ (0 ∷ 1 ∷ []) ∷ (0 ∷ 2 ∷ []) ∷ (1 ∷ 2 ∷ []) ∷ []
 pairs = refl
 
-items-once : items_of (record { item = 1; copy = 0 } ∷ record { item = 1; copy = 1 } ∷ []) ≡ 1 ∷ []
+items-once : items_of_wires (record { item = 1; copy = 0 } ∷ record { item = 1; copy = 1 } ∷ []) ≡ 1 ∷ []
 items-once = refl
 
 -- Items of weights 1, 1 and 3: of the ten pairs of wires one has the items 0 and 1, and three have 1 and 2.

@@ -11,7 +11,7 @@ use Rattle.tuple_model.specs.Tuples.{HasRank, rising, tuples}
 use Rattle.tuple_model.specs.Minimal.{Picks}
 use Rattle.tuple_model.specs.Antichains.{Covers}
 use Rattle.antichain_list.specs.Lists.{IsFirstSubset}
-use Rattle.wire_counts.specs.Coefficients.{item_wires, sets_of, IsCoefficient}
+use Rattle.wire_counts.specs.Coefficients.{item_wires, sets_of_size, IsCoefficient}
 use Rattle.wire_counts.specs.Ways.{sets_with, AddsSets, AreCounted, IsWithinLimits, ranked}
 use Rattle.wire_counts.proofs.Sums.{sum_by-one}
 use Rattle.wire_counts.proofs.ByTuples.{over-tuples}
@@ -141,7 +141,7 @@ module _ (list : List (List ℕ)) (weights : List ℕ) (size : ℕ) where
       let a = sum_by-take-le f ts rank in
       let e = sum_by-le-sum_by f (λ t. 1 * sets_with weights t i) ts (λ u. covered_at_most list u (sets_with weights u i)) in
       let g = over-tuples weights size i (λ s. 1) m in
-      let j = sum_by-one (sets_of i (item_wires weights)) in
+      let j = sum_by-one (sets_of_size i (item_wires weights)) in
       let k = sets-bounded weights i few within.small (omega arith) in
       omega arith
 

@@ -5,8 +5,8 @@ use Rattle.std.specs.List.{dedup, dedup_from, range_with_len, sum_by}
 use Rattle.std.proofs.lemmas.List.Sums.{sum_by-append}
 use Rattle.std.proofs.lemmas.Bool.{cases_eq, ne_eqb}
 use Rattle.tuple_order.proofs.Counting.{ways, length-rising}
-use Rattle.wire_counts.specs.Coefficients.{Wire, sets_of, items_of}
-use Rattle.wire_counts.specs.Ways.{chosen, mix}
+use Rattle.wire_counts.specs.Coefficients.{Wire, sets_of_size, items_of_wires}
+use Rattle.wire_counts.specs.Ways.{ways_to_choose, mix}
 use Rattle.wire_counts.proofs.Mixes.{mix-same, mix-add_left, mix-none}
 use Rattle.wire_counts.proofs.Sums.{sum_by-map, sum_by-same}
 
@@ -50,18 +50,18 @@ dedup-cons x (y ∷ ys) =
           ∙ ap (λ (t : List ℕ). x ∷ t) r.1 ∙ sym (join-other x y r.0 (λ e. other (sym e))) ∙ ap (join x) (sym r.1)
     ]
 
-pub items_of-cons : (x : Wire) (set : List Wire) → items_of (x ∷ set) ≡ join x.item (items_of set)
-items_of-cons x set = dedup-cons x.item (map (λ (wire : Wire). wire.item) set)
+pub items_of_wires-cons : (x : Wire) (set : List Wire) → items_of_wires (x ∷ set) ≡ join x.item (items_of_wires set)
+items_of_wires-cons x set = dedup-cons x.item (map (λ (wire : Wire). wire.item) set)
 
 -- the sum over all sets of so many wires, of a value of their items
 abbrev pub over : (List ℕ → ℕ) → List Wire → ℕ → ℕ
-over g xs size = sum_by (λ set. g (items_of set)) (sets_of size xs)
+over g xs size = sum_by (λ set. g (items_of_wires set)) (sets_of_size size xs)
 
 pub over-cons : (g : List ℕ → ℕ) (x : Wire) (xs : List Wire) (i : ℕ) → over g (x ∷ xs) (suc i) ≡ over (λ t. g (join x.item t)) xs i + over g xs (suc i)
 over-cons g x xs i =
-    let a = sum_by-append (λ set. g (items_of set)) (map (λ (set : List Wire). x ∷ set) (sets_of i xs)) (sets_of (suc i) xs) in
-    let b = sum_by-map (λ set. g (items_of set)) (λ (set : List Wire). x ∷ set) (sets_of i xs) in
-    let c = sum_by-same (λ set. g (items_of (x ∷ set))) (λ set. g (join x.item (items_of set))) (sets_of i xs) (λ set k. ap g (items_of-cons x set)) in
+    let a = sum_by-append (λ set. g (items_of_wires set)) (map (λ (set : List Wire). x ∷ set) (sets_of_size i xs)) (sets_of_size (suc i) xs) in
+    let b = sum_by-map (λ set. g (items_of_wires set)) (λ (set : List Wire). x ∷ set) (sets_of_size i xs) in
+    let c = sum_by-same (λ set. g (items_of_wires (x ∷ set))) (λ set. g (join x.item (items_of_wires set))) (sets_of_size i xs) (λ set k. ap g (items_of_wires-cons x set)) in
     omega arith
 
 -- wires of an item, from a copy number on
@@ -85,7 +85,7 @@ inside item start (suc weight) rest g zero e = omega arith
 inside item start (suc weight) rest g (suc i) e =
     let xs = copies_from item (start + 1) weight ++ rest in
     let a = over-cons g (record { item = item; copy = start }) xs i in
-    let s = sum_by-same (λ set. g (join item (items_of set))) (λ set. g (items_of set)) (sets_of i xs) (λ set k. e (items_of set)) in
+    let s = sum_by-same (λ set. g (join item (items_of_wires set))) (λ set. g (items_of_wires set)) (sets_of_size i xs) (λ set k. e (items_of_wires set)) in
     let r = inside item (start + 1) weight rest g i e in
     let q = inside item (start + 1) weight rest g (suc i) e in
     let m = mix-add_left (λ k. ways k weight) (λ k. ways (suc k) weight) (over g rest) i in
@@ -110,10 +110,10 @@ later-same a b zero e = refl
 later-same a b (suc i) e = e i
 
 pub outside : (item weight : ℕ) (rest : List Wire) (g : List ℕ → ℕ) (i : ℕ) →
-    over g (copies_from item 0 weight ++ rest) i ≡ over g rest i + later (mix (chosen weight) (over (λ t. g (join item t)) rest)) i
+    over g (copies_from item 0 weight ++ rest) i ≡ over g rest i + later (mix (ways_to_choose weight) (over (λ t. g (join item t)) rest)) i
 outside item weight rest g i =
     outside_by_ways item 0 weight rest g i
     ∙ ap (λ (n : ℕ). over g rest i + n) (later-same (mix (λ k. ways (suc k) weight) (over (λ t. g (join item t)) rest))
-    (mix (chosen weight) (over (λ t. g (join item t)) rest)) i
-    (λ j. mix-same (λ k. ways (suc k) weight) (chosen weight) (over (λ t. g (join item t)) rest) (over (λ t. g (join item t)) rest) j
+    (mix (ways_to_choose weight) (over (λ t. g (join item t)) rest)) i
+    (λ j. mix-same (λ k. ways (suc k) weight) (ways_to_choose weight) (over (λ t. g (join item t)) rest) (over (λ t. g (join item t)) rest) j
     (λ k l. sym (length-rising (suc k) weight 0)) (λ k l. refl)))

@@ -23,19 +23,19 @@ abbrev pub item_wires : List ℕ → List Wire
 item_wires weights = flat_map (λ item. copies (slice_index weights item) item) (range_with_len 0 (length weights))
 
 -- all sets of so many of the elements, each in their order: those with the first element, and those without it
-abbrev pub sets_of : {X : Type 0} → ℕ → List X → List (List X)
-sets_of zero xs = [] ∷ []
-sets_of (suc size) [] = []
-sets_of (suc size) (x ∷ xs) = map (λ set. x ∷ set) (sets_of size xs) ++ sets_of (suc size) xs
+abbrev pub sets_of_size : {X : Type 0} → ℕ → List X → List (List X)
+sets_of_size zero xs = [] ∷ []
+sets_of_size (suc size) [] = []
+sets_of_size (suc size) (x ∷ xs) = map (λ set. x ∷ set) (sets_of_size size xs) ++ sets_of_size (suc size) xs
 
 -- the tuple of the items of a set of wires, each item once
-abbrev pub items_of : List Wire → List ℕ
-items_of set = dedup nat_eq (map (λ wire. wire.item) set)
+abbrev pub items_of_wires : List Wire → List ℕ
+items_of_wires set = dedup nat_eq (map (λ wire. wire.item) set)
 
 -- Out of all sets of i wires, n fail: so many are picked as those whose items fail.
 pub record IsCoefficient (Fails : List ℕ → Type 0) (weights : List ℕ) (i n : ℕ) : Type 0 where
   pub failing : List (List Wire)
-  pub picked : Picks (λ set. Fails (items_of set)) (sets_of i (item_wires weights)) failing
+  pub picked : Picks (λ set. Fails (items_of_wires set)) (sets_of_size i (item_wires weights)) failing
   pub count : length failing ≡ n
 
 -- the coefficients for sets of 0 up to `size` wires, in order

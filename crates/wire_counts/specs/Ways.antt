@@ -7,12 +7,12 @@ use Rattle.tuple_model.specs.Minimal.{Picks}
 use Rattle.wire_counts.specs.Limits.{most_weight}
 
 -- in how many ways one more than so many of an item's wires are chosen
-abbrev pub chosen : ℕ → ℕ → ℕ
-chosen weight more = length (rising (suc more) weight 0)
+abbrev pub ways_to_choose : ℕ → ℕ → ℕ
+ways_to_choose weight more = length (rising (suc more) weight 0)
 
 -- the numbers tell in how many ways wires of an item are chosen, and the first one is its weight
 abbrev pub AreChoices : List ℕ → Type 0
-AreChoices numbers = (more : ℕ) → more < most_size → slice_index numbers more ≡ chosen (slice_index numbers 0) more
+AreChoices numbers = (more : ℕ) → more < most_size → slice_index numbers more ≡ ways_to_choose (slice_index numbers 0) more
 
 -- a(0) b(n) + a(1) b(n - 1) + .. + a(n) b(0)
 abbrev pub mix : (ℕ → ℕ) → (ℕ → ℕ) → ℕ → ℕ
@@ -23,7 +23,7 @@ mix a b (suc n) = a 0 * b (suc n) + mix (λ k. a (suc k)) b n
 abbrev pub exact_sets : List ℕ → List ℕ → ℕ → ℕ
 exact_sets weights [] zero = 1
 exact_sets weights [] (suc more) = 0
-exact_sets weights (item ∷ t) more = mix (chosen (slice_index weights item)) (exact_sets weights t) more
+exact_sets weights (item ∷ t) more = mix (ways_to_choose (slice_index weights item)) (exact_sets weights t) more
 
 -- how many sets of i wires have exactly the tuple's items
 abbrev pub sets_with : List ℕ → List ℕ → ℕ → ℕ

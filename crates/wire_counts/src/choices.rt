@@ -5,7 +5,7 @@ ghost use Rattle.tuple_model.specs.Limits.{most_size};
 ghost use Rattle.wire_table.specs.Items.{item_of};
 ghost use Rattle.wire_counts.specs.Coefficients.{weights_of};
 ghost use Rattle.wire_counts.specs.Limits.{most_weight};
-ghost use Rattle.wire_counts.specs.Ways.{chosen};
+ghost use Rattle.wire_counts.specs.Ways.{ways_to_choose};
 
 use mask_bytes::OutOfMemory;
 use std::alloc::Global;
@@ -51,7 +51,7 @@ impl Choices {
     /// In how many ways one more than `more` wires are chosen.
     pub fn number(&self, more: usize) -> u128
         requires { more < most_size }
-        ensures { result ≡ chosen self.now more }
+        ensures { result ≡ ways_to_choose self.now more }
     {
         self.numbers[more]
     }

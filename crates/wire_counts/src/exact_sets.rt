@@ -4,7 +4,7 @@ ghost use Rattle.std.specs.Prelude.{◌≡◌, ℕ, ◌+◌, ◌<◌, ◌≤◌,
 ghost use Rattle.tuple_model.specs.Limits.{most_items, most_size};
 ghost use Rattle.tuple_model.specs.Tuples.{IsTuple};
 ghost use Rattle.wire_counts.specs.Limits.{most_weight};
-ghost use Rattle.wire_counts.specs.Ways.{chosen, mix, exact_sets as number_of_sets};
+ghost use Rattle.wire_counts.specs.Ways.{ways_to_choose, mix, exact_sets as number_of_sets};
 
 use crate::choices::Choices;
 use tuple_order::Tuple;
@@ -29,9 +29,9 @@ pub fn exact_sets(choices: &[Choices], t: &Tuple, room: usize) -> [u128; 7]
 // Takes one item more into account, by the highest numbers first, since each is made from itself and the lower ones.
 fn with_item(choices: &Choices, room: usize, sets: &mut [u128; 7])
     requires room { room < most_size }
-    requires fits { (more : ℕ) → more ≤ room → mix (chosen choices.now) (slice_index sets.old) more < 2 ^ 128 }
+    requires fits { (more : ℕ) → more ≤ room → mix (ways_to_choose choices.now) (slice_index sets.old) more < 2 ^ 128 }
     ensures { (more : ℕ) → more ≤ room →
-        slice_index sets.new more ≡ mix (chosen choices.now) (slice_index sets.old) more }
+        slice_index sets.new more ≡ mix (ways_to_choose choices.now) (slice_index sets.old) more }
 {
     for more in (0..room + 1).rev() {
         sets[more] = mixed(choices, sets, more);
@@ -41,8 +41,8 @@ fn with_item(choices: &Choices, room: usize, sets: &mut [u128; 7])
 // How many sets have `more` wires more, some of them of the item more.
 fn mixed(choices: &Choices, sets: &[u128; 7], more: usize) -> u128
     requires few { more < most_size }
-    requires fits { mix (chosen choices.now) (slice_index sets.now) more < 2 ^ 128 }
-    ensures { result ≡ mix (chosen choices.now) (slice_index sets.now) more }
+    requires fits { mix (ways_to_choose choices.now) (slice_index sets.now) more < 2 ^ 128 }
+    ensures { result ≡ mix (ways_to_choose choices.now) (slice_index sets.now) more }
 {
     let mut total = 0;
     for taken in 0..more + 1 {

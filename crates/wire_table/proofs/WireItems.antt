@@ -13,7 +13,7 @@ use Rattle.list_laws.proofs.Once.{Contains-from_filter}
 use Rattle.std.proofs.lemmas.Bool.{ltb-true}
 use Rattle.mask_terms.specs.declared.wires.Wires.{Wires}
 use Rattle.mask_terms.specs.declared.wires.Wires.TheVariants.{Plain, Copies}
-use Rattle.wire_table.specs.Items.{Item, output_index, weighted_item, numbers, HasFewVariables, HasVariablesBelow}
+use Rattle.wire_table.specs.Items.{Item, output_index, weighted_item, numbers, ObservesFew, HasVariablesBelow}
 use Rattle.wire_table.specs.Tables.{Table, StandsFor}
 use Rattle.wire_table.specs.Uses.{operands, uses_of, wire_count, weight_of, wire_items}
 use Rattle.wire_table.proofs.OutputPlaces.{is_output}
@@ -69,8 +69,8 @@ module _ (wires : Wires) (g : Circuit) where
       let leaks : ℕ → Bool = λ v. nat_lt 0 (weight_of wires g v) in
       All-map P item (filter leaks (numbers g)) (All-filter leaks (λ v. P (item v)) (numbers g) (All-range (length g.variables) (λ v. P (item v)) h))
 
-  pub few_variables-wires : All HasFewVariables (wire_items wires g)
-  few_variables-wires = All-wires HasFewVariables (λ v l. omega arith)
+  pub few_variables-wires : All ObservesFew (wire_items wires g)
+  few_variables-wires = All-wires ObservesFew (λ v l. omega arith)
 
   pub variables_below-wires : All (HasVariablesBelow (length g.variables)) (wire_items wires g)
   variables_below-wires =

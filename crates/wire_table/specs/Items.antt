@@ -47,8 +47,8 @@ abbrev pub numbers : Circuit → List ℕ
 numbers g = range_with_len 0 (length g.variables)
 
 -- an item observes at most one share of each output
-abbrev pub HasFewVariables : Item → Type 0
-HasFewVariables item = length item.variables ≤ most_outputs
+abbrev pub ObservesFew : Item → Type 0
+ObservesFew item = length item.variables ≤ most_outputs
 
 -- an item observes variables with numbers below a bound
 abbrev pub HasVariablesBelow : ℕ → Item → Type 0

@@ -1,8 +1,8 @@
 use Rattle.std.proofs.Common.{◌≡◌, ◌++◌, ◌-◌, codes, flat_map}
 use Rattle.std.specs.List.{range_with_len}
 use Rattle.gadget_maker.specs.Texts.{text_of, running_sum, paired}
-use Rattle.gadget_maker.specs.Rows.{steps_from}
+use Rattle.gadget_maker.specs.Rows.{sum_steps_from}
 use Rattle.gadget_maker.proofs.maker.isw.Given as goal
 
 abbrev pub invariant-loop-i : goal.invariant-loop-i
-invariant-loop-i l = l.text.items ≡ l.initial.text.items ++ flat_map (λ i. text_of (running_sum (paired (codes "p") i i) (steps_from l.n (codes "c") (paired (codes "r")) i 0))) (range_with_len 0 (l.i - 0))
+invariant-loop-i l = l.text.items ≡ l.initial.text.items ++ flat_map (λ i. text_of (running_sum (paired (codes "p") i i) (sum_steps_from l.n (codes "c") (paired (codes "r")) i 0))) (range_with_len 0 (l.i - 0))

@@ -1,11 +1,11 @@
 use Rattle.std.proofs.Common.{◌≡◌, ◌+◌, ◌-◌, ap, slice_index, arith}
-use Rattle.wire_counts.specs.Ways.{chosen, mix}
+use Rattle.wire_counts.specs.Ways.{ways_to_choose, mix}
 use Rattle.wire_counts.proofs.Mixes.{terms, terms-all}
 use Rattle.wire_counts.proofs.exact_sets.mixed.Goals as goal
 
 pub loop-taken-init : goal.loop-taken-init
 loop-taken-init c =
-    let a = chosen c.args.choices.now in
+    let a = ways_to_choose c.args.choices.now in
     let b = slice_index c.args.sets.now in
     let n = c.args.more in
     let e = ap (terms a b n) (let f : n + 1 - 0 ≡ n + 1 = omega arith in f) in
