@@ -76,7 +76,7 @@ popped all kept i x w l is last same h =
           omega arith;
     }
 
--- the next monomial is put behind the last one
+-- the next monomial is put after the last one
 pushed : (all kept : List (List ℕ)) (i : ℕ) (x : List ℕ) → i < length all → x ≡ get_or all i x → AreSorted all → ends_in kept x ≡ false →
     HaveKey x → IsSumSoFar all kept i → IsSumSoFar all (kept ++ x ∷ []) (i + 1)
 pushed all kept i x l is sorted differs has h =

@@ -9,8 +9,8 @@ use crate::marks::Marks;
 use mask_bytes::OutOfMemory;
 use tuple_order::size_in;
 
-/// Adds the codes of one list of whose tuples no tuple of the other list is a proper subset. Only tuples that are
-/// smaller than the greatest of the one list are looked up, and where there are none, no code of it is read.
+/// Adds the codes in `list` of the tuples of which no tuple of `others` is a proper subset. Of `others` only those are
+/// looked up that are smaller than the greatest tuple of `list`; where there are none, `list` is copied.
 pub fn add_minimal(
     codes: &mut Vec<u64>,
     list: &[u64],
@@ -30,7 +30,7 @@ pub fn add_minimal(
     add_uncovered(codes, list, &others[..smaller], marks)
 }
 
-// Adds the codes of one list of whose tuples no tuple with one of the other codes is a proper subset.
+// The same, where each of `others` may be a proper subset of some tuple of `list`.
 fn add_uncovered(
     codes: &mut Vec<u64>,
     list: &[u64],

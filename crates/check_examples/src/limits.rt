@@ -6,7 +6,7 @@ use mask_check::Status;
 use std::alloc::{AllocError, Global};
 use std::test::Fail;
 
-// The refresh, and behind it a comment that fills the file up to `length` bytes.
+// The refresh, and after it a comment that fills the file up to `length` bytes.
 fn filled_file(alloc: Global, length: usize) -> Result<Vec<u8>, AllocError> {
     let mut file = REFRESH.as_bytes().to_vec(alloc)?;
     file.push(b'#')?;
@@ -32,7 +32,7 @@ fn longer_file_is_too_long(rt: HostRuntime) -> Result<(), Fail> {
     Ok(())
 }
 
-// The refresh, which has five variables, with so many copies behind it.
+// The refresh, which has five variables, with so many copies after it.
 fn copies(alloc: Global, count: u16) -> Result<String, AllocError> {
     let mut file = String::from_str(alloc, REFRESH)?;
     for k in 1..=count {
@@ -53,7 +53,7 @@ fn five_hundred_and_eleven_variables_are_read(rt: HostRuntime) -> Result<(), Fai
     Ok(())
 }
 
-// Lines behind 511 variables, and what each is refused for: too many variables are the last offence of a line.
+// Lines after 511 variables, and what each is refused for: too many variables are the last offence of a line.
 const LAST_LINES: [(&str, FileError); 7] = [
     (
         "y = (((((((((((((((((((((((((((((((((((((((((((((((((((((((((((((((((\n",
@@ -81,15 +81,15 @@ fn one_variable_more_is_refused(rt: HostRuntime) -> Result<(), Fail> {
     Ok(())
 }
 
-// The refresh, with so many parentheses around its first sum, which is assigned to a name, and a word behind it.
-fn nested(alloc: Global, name: &str, depth: usize, behind: &str) -> Result<Vec<u8>, AllocError> {
+// The refresh, with so many parentheses around its first sum, which is assigned to a name, and a word after it.
+fn nested(alloc: Global, name: &str, depth: usize, more: &str) -> Result<Vec<u8>, AllocError> {
     let mut file = b"#SHARES 2\n#IN a\n#RANDOMS r0\n#OUT d\n".to_vec(alloc)?;
     file.extend_from_slice(name.as_bytes())?;
     file.extend_from_slice(b" = ")?;
     file.resize(file.len().saturating_add(depth), b'(')?;
     file.extend_from_slice(b"a0 + r0")?;
     file.resize(file.len().saturating_add(depth), b')')?;
-    file.extend_from_slice(behind.as_bytes())?;
+    file.extend_from_slice(more.as_bytes())?;
     file.extend_from_slice(b"\nd1 = a1 + r0\n")?;
     Ok(file)
 }
@@ -103,7 +103,7 @@ fn sixty_four_levels_of_parentheses_are_read(rt: HostRuntime) -> Result<(), Fail
     Ok(())
 }
 
-// Names and words behind that make another offence: a name that stands twice, syntax, a name that is unknown.
+// Names and words after that make another offence: a name that stands twice, syntax, a name that is unknown.
 const NESTED: [(&str, &str); 6] = [
     ("d0", ""),
     ("a0", ""),
@@ -118,10 +118,10 @@ fn sixty_five_levels_are_refused_before_anything_else_on_the_line(
     rt: HostRuntime,
 ) -> Result<(), Fail> {
     let alloc = rt.alloc();
-    for (name, behind) in NESTED {
-        let outcome = check_bytes(&rt, "1", &nested(alloc, name, 65, behind)?)?;
+    for (name, more) in NESTED {
+        let outcome = check_bytes(&rt, "1", &nested(alloc, name, 65, more)?)?;
         let refused = Status::File(FileError::TooMany(What::Nesting));
-        assert_eq!(rt; outcome.status, refused, "{name} {behind}");
+        assert_eq!(rt; outcome.status, refused, "{name} {more}");
         assert_eq!(rt; outcome.text.as_str(), "");
     }
     Ok(())

@@ -14,7 +14,7 @@ fn read_fault_in_the_middle_writes_nothing(rt: HostRuntime) -> Result<(), Fail> 
     Ok(())
 }
 
-// The file has 44 bytes, and the call behind the last of them tells the end.
+// The file has 44 bytes, and the call after the last of them tells the end.
 #[test]
 fn read_fault_at_any_byte_or_the_end_writes_nothing(rt: HostRuntime) -> Result<(), Fail> {
     let alloc = rt.alloc();

@@ -24,14 +24,14 @@ fn push_copies(alloc: Global, file: &mut String) -> Result<(), AllocError> {
     Ok(())
 }
 
-// A file in which `t`, on line 4, is the product of the sums of all shares of two inputs, and then a line `behind`.
-fn file(alloc: Global, behind: &str) -> Result<String, AllocError> {
+// A file in which `t`, on line 4, is the product of the sums of all shares of two inputs, and then a line `more`.
+fn file(alloc: Global, more: &str) -> Result<String, AllocError> {
     let mut file = String::from_str(alloc, "#SHARES 16\n#IN a b c\n#OUT d\nt = ")?;
     push_sum(alloc, &mut file, "a")?;
     file.push_str(" * ")?;
     push_sum(alloc, &mut file, "b")?;
     file.push_str("\n")?;
-    file.push_str(behind)?;
+    file.push_str(more)?;
     push_copies(alloc, &mut file)?;
     Ok(file)
 }

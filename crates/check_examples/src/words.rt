@@ -5,7 +5,7 @@ use mask_bytes::{MemSink, SureSource, read_whole};
 use mask_check::{OpenGate, Status, UsageKind, check};
 use std::test::Fail;
 
-// Words, and what is amiss with them.
+// Words, and what is wrong with them.
 const REFUSED_WORDS: [(&[&str], UsageKind); 3] = [
     (&["mask", "ni", "7"], UsageKind::Argument),
     (&["mask", "xni", "1"], UsageKind::Task),

@@ -8,7 +8,7 @@ use gadget_text::{FileError, Header, MOST_FILE_BYTES, TextError, What, tokens};
 use std::alloc::{AllocError, Global};
 use std::test::Fail;
 
-// What the headers of a text say, and on which line what is behind them begins: 0 where the text ends with them.
+// What the headers of a text say, and on which line what is after them begins: 0 where the text ends with them.
 #[derive(Clone, Copy)]
 struct Said {
     shares: u8,
@@ -200,7 +200,7 @@ fn reads_and_refuses_headers(rt: HostRuntime) -> Result<(), Fail> {
     Ok(())
 }
 
-// A line with a header of so many randoms, and a word behind them.
+// A line with a header of so many randoms, and a word after them.
 fn randoms(alloc: Global, count: usize, word: &str) -> Result<Vec<u8>, AllocError> {
     let mut text = Vec::new(alloc);
     text.extend_from_slice(b"#RANDOMS")?;

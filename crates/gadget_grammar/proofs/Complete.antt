@@ -23,59 +23,59 @@ here_of expr s p = nothing
 here_of term s p = level s None
 here_of unit s p = level s p
 
--- where the reader is behind a term
+-- where the reader is after a term
 abbrev after_term : List TreeLevel → Option Tree → Tree → TreeState
 after_term outer s (named w) = have (named w) outer (level s None)
 after_term outer s (parens t) = have (parens t) outer (level s None)
 after_term outer s (sum_of a b) = have (sum_of a b) outer (level s None)
 after_term outer s (product_of a b) = have b outer (level s (Some a))
 
--- where the reader is behind an expression
+-- where the reader is after an expression
 abbrev after_expr : List TreeLevel → Tree → TreeState
 after_expr outer (named w) = after_term outer None (named w)
 after_expr outer (parens t) = after_term outer None (parens t)
 after_expr outer (sum_of a b) = after_term outer (Some a) b
 after_expr outer (product_of a b) = after_term outer None (product_of a b)
 
--- where the reader is behind a tree of a rule
+-- where the reader is after a tree of a rule
 abbrev after : Rule → List TreeLevel → Option Tree → Option Tree → Tree → TreeState
 after expr outer s p t = after_expr outer t
 after term outer s p t = after_term outer s t
 after unit outer s p t = have t outer (level s p)
 
--- a term behind the sum that waits
+-- a term after the sum that waits
 abbrev total : Option Tree → Tree → Tree
 total s t = with_left sum_of s t
 
--- behind a term, `*` makes it a left side
+-- after a term, `*` makes it a left side
 times_after : (outer : List TreeLevel) (s : Option Tree) (t : Tree) → Derives term t → next_state (after_term outer s t) times ≡ Some (opened outer (level s (Some t)))
 times_after outer s (named w) d = refl
 times_after outer s (parens t) d = refl
 times_after outer s (sum_of a b) d = absurd d
 times_after outer s (product_of a b) d = refl
 
--- behind a term, `+` makes it a left side together with the sum that waits
+-- after a term, `+` makes it a left side together with the sum that waits
 term_plus : (outer : List TreeLevel) (s : Option Tree) (t : Tree) → Derives term t → next_state (after_term outer s t) plus ≡ Some (opened outer (level (Some (total s t)) None))
 term_plus outer s (named w) d = refl
 term_plus outer s (parens t) d = refl
 term_plus outer s (sum_of a b) d = absurd d
 term_plus outer s (product_of a b) d = refl
 
--- behind an expression, `+` makes it a left side
+-- after an expression, `+` makes it a left side
 plus_after : (outer : List TreeLevel) (t : Tree) → Derives expr t → next_state (after_expr outer t) plus ≡ Some (opened outer (level (Some t) None))
 plus_after outer (named w) d = refl
 plus_after outer (parens t) d = refl
 plus_after outer (sum_of a b) d = term_plus outer (Some a) b d.1
 plus_after outer (product_of a b) d = refl
 
--- behind a term, `)` makes a unit of it together with the sum that waits
+-- after a term, `)` makes a unit of it together with the sum that waits
 term_closing : (around : TreeLevel) (outer : List TreeLevel) (s : Option Tree) (t : Tree) → Derives term t → next_state (after_term (around ∷ outer) s t) closing ≡ Some (have (parens (total s t)) outer around)
 term_closing around outer s (named w) d = refl
 term_closing around outer s (parens t) d = refl
 term_closing around outer s (sum_of a b) d = absurd d
 term_closing around outer s (product_of a b) d = refl
 
--- behind an expression, `)` makes a unit of it
+-- after an expression, `)` makes a unit of it
 closing_after : (around : TreeLevel) (outer : List TreeLevel) (t : Tree) → Derives expr t → next_state (after_expr (around ∷ outer) t) closing ≡ Some (have (parens t) outer around)
 closing_after around outer (named w) d = refl
 closing_after around outer (parens t) d = refl
@@ -134,7 +134,7 @@ sum_reads a b d ia ib outer rest =
     ∙ one_more (after_expr outer a) (opened outer (level (Some a) None)) plus (spelled b ++ rest) (plus_after outer a d)
     ∙ ib outer (Some a) None rest
 
--- the symbols of a tree bring the reader behind the tree
+-- the symbols of a tree bring the reader after the tree
 reads : (r : Rule) (t : Tree) → Derives r t → (outer : List TreeLevel) (s p : Option Tree) (rest : List Symbol) → tree_from (opened outer (here_of r s p)) (spelled t ++ rest) ≡ tree_from (after r outer s p t) rest
 reads expr (named w) d outer s p rest = name_reads w d outer nothing rest
 reads term (named w) d outer s p rest = name_reads w d outer (level s None) rest

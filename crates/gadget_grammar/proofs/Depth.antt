@@ -7,7 +7,7 @@ use Rattle.gadget_grammar.specs.Nesting.{most_open_parentheses, count_opened, co
 abbrev pub IsDeepAt : ℕ → ℕ → List Symbol → ℕ → Type 0
 IsDeepAt o c xs k = most_open_parentheses + (c + count_closed (take k xs)) < o + count_opened (take k xs)
 
--- one more parenthesis is opened, which is one too many, or a place is found behind it
+-- one more parenthesis is opened, which is one too many, or a place is found after it
 deep_first : (b : Bool) (o c : ℕ) (xs : List Symbol) → nat_lt (most_open_parentheses + c) (o + 1) ≡ b → b || is_too_deep (o + 1) c xs ≡ true →
     (is_too_deep (o + 1) c xs ≡ true → (k : ℕ) × IsDeepAt (o + 1) c xs k) → (k : ℕ) × IsDeepAt o c (opening ∷ xs) k
 deep_first true o c xs e f ih = (suc zero, let l : most_open_parentheses + c < o + 1 = search (arith, tests, e) in omega (arith, l))

@@ -58,7 +58,7 @@ unread lexemes e name tree h =
     let found = run_spelled (drop 2 (symbols_of lexemes)) tree (record { derives = h.derives; spells = ap (drop 2) h.spells }) in
     absurd cc
 
--- the symbols behind the first two tokens
+-- the symbols after the first two tokens
 pub symbols_behind : (bytes : List ℕ) (ts : List Token) → symbols_in bytes (drop 2 ts) ≡ drop 2 (symbols_in bytes ts)
 symbols_behind bytes [] = refl
 symbols_behind bytes (t ∷ []) = refl

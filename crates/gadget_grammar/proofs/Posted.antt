@@ -35,13 +35,13 @@ state_at ls l u = record { steps = outer_steps ls ++ (level_steps l ++ steps_of 
 abbrev state_of : TreeState → machine.State
 state_of s = state_at s.outer s.here s.unit
 
--- a product that waits is put out behind its right side
+-- a product that waits is put out after its right side
 product_posted : (front : List NamedStep) (p : Option Tree) (u : Tree) →
     machine.with_waiting (is_some p) product (front ++ (steps_of p ++ postfix u)) ≡ front ++ postfix (with_left product_of p u)
 product_posted front None u = refl
 product_posted front (Some a) u = simp append_assoc
 
--- a sum that waits is put out behind its right side
+-- a sum that waits is put out after its right side
 sum_posted : (front : List NamedStep) (s : Option Tree) (t : Tree) →
     machine.with_waiting (is_some s) sum (front ++ (steps_of s ++ postfix t)) ≡ front ++ postfix (with_left sum_of s t)
 sum_posted front None t = refl
@@ -89,7 +89,7 @@ closing_posted [] t = refl
 closing_posted (k ∷ ls) t =
     ap (λ (z : List NamedStep). Some (record { steps = z; outer = map level_of ls; here = level_of k; has_unit = true })) (append_assoc (outer_steps ls) (level_steps k) (postfix t))
 
--- behind a unit
+-- after a unit
 behind_unit_posted : (ls : List TreeLevel) (l : TreeLevel) (u : Tree) (x : Symbol) →
     Same (machine.next_behind_unit (outer_steps ls ++ (level_steps l ++ postfix u)) (map level_of ls) (level_of l) x) (next_behind_unit ls l u x)
 behind_unit_posted ls l u plus =

@@ -97,7 +97,7 @@ before_unit_sound ls l times f g = tt
 before_unit_sound ls l closing f g = tt
 before_unit_sound ls l other f g = tt
 
--- behind a unit
+-- after a unit
 behind_unit_sound : (ls : List TreeLevel) (l : TreeLevel) (u : Tree) (x : Symbol) → FitsLevels ls → FitsLevel l → Derives unit u → Goes ls l (Some u) x (next_behind_unit ls l u x)
 behind_unit_sound ls l u plus f g h =
     let w = whole_sound l u g h in (

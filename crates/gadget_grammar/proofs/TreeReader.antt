@@ -39,7 +39,7 @@ next_before_unit outer here (word w) = if is_name w then Some (record { outer = 
 next_before_unit outer here opening = Some (record { outer = here ∷ outer; here = nothing; unit = None })
 next_before_unit outer here symbol = None
 
--- behind a unit
+-- after a unit
 abbrev pub next_behind_unit : List TreeLevel → TreeLevel → Tree → Symbol → Option TreeState
 next_behind_unit outer here u plus = Some (record { outer = outer; here = record { sum = Some (whole here u); product = None }; unit = None })
 next_behind_unit outer here u times = Some (record { outer = outer; here = record { sum = here.sum; product = Some (with_left product_of here.product u) }; unit = None })

@@ -4,7 +4,7 @@ use Rattle.gadget_grammar.specs.Grammar.{Tree, named, parens, sum_of, product_of
 use Rattle.gadget_grammar.specs.Steps.{NamedStep, sum, product, postfix, Meaning, tree_value, stack_after, stack_after_steps}
 
 module _ (V : Type 0) (m : Meaning V) where
-  -- steps behind steps
+  -- steps after steps
   after_steps-append : (xs ys : List NamedStep) (stack : List V) → stack_after_steps m (xs ++ ys) stack ≡ stack_after_steps m ys (stack_after_steps m xs stack)
   after_steps-append [] ys stack = refl
   after_steps-append (x ∷ xs) ys stack = after_steps-append xs ys (stack_after m x stack)

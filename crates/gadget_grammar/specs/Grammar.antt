@@ -23,7 +23,7 @@ spelled (parens t) = opening ∷ (spelled t ++ closing ∷ [])
 spelled (sum_of a b) = spelled a ++ plus ∷ spelled b
 spelled (product_of a b) = spelled a ++ times ∷ spelled b
 
--- the rules for what stands behind `=`
+-- the rules for what stands after `=`
 pub data Rule : Type 0 where
   expr : Rule
   term : Rule

@@ -18,15 +18,15 @@ pub record State : Type 0 where
 abbrev pub empty : Level
 empty = record { sum = false; product = false }
 
--- the steps, and behind them one that waits
+-- the steps, and after them one that waits
 abbrev pub with_waiting : Bool → NamedStep → List NamedStep → List NamedStep
 with_waiting waits step steps = if waits then steps ++ step ∷ [] else steps
 
--- the steps, and behind them all that waits at a level
+-- the steps, and after them all that waits at a level
 abbrev pub with_level : Level → List NamedStep → List NamedStep
 with_level level steps = with_waiting level.sum sum (with_waiting level.product product steps)
 
--- behind a closing parenthesis the level around it goes on
+-- after a closing parenthesis the level around it goes on
 abbrev pub after_closing : List NamedStep → List Level → Option State
 after_closing steps [] = None
 after_closing steps (level ∷ outer) = Some (record { steps = steps; outer = outer; here = level; has_unit = true })
@@ -40,7 +40,7 @@ next_before_unit steps outer here opening =
     Some (record { steps = steps; outer = here ∷ outer; here = empty; has_unit = false })
 next_before_unit steps outer here symbol = None
 
--- behind a unit, only `+`, `*` and a closing parenthesis are right
+-- after a unit, only `+`, `*` and a closing parenthesis are right
 abbrev pub next_behind_unit : List NamedStep → List Level → Level → Symbol → Option State
 next_behind_unit steps outer here plus =
     let waits : Level = record { sum = true; product = false } in

@@ -100,7 +100,7 @@ impl Reader {
         }
     }
 
-    // Behind a unit, only `+`, `*` and a closing parenthesis are right.
+    // After a unit, only `+`, `*` and a closing parenthesis are right.
     fn go_on(&mut self, line: u32, token: Token) -> Result<(), FileError>
         requires unit { self.old.has_unit ≡ true }
         ensures state { (bytes : List ℕ) →

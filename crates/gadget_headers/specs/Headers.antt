@@ -38,7 +38,7 @@ pub record SoFar : Type 0 where
 abbrev pub no_headers : SoFar
 no_headers = record { has_profile = false; shares = None; inputs = None; randoms = None; outputs = None }
 
--- what all headers of a file say, and the lines behind them
+-- what all headers of a file say, and the lines after them
 pub record Preamble : Type 0 where
   pub shares : ℕ
   pub inputs : Listed

@@ -6,7 +6,7 @@ ghost use Rattle.gadget_headers.specs.Seen.{EndHeaders, GoesOn};
 
 use gadget_text::{Header, Token, TokenKind, first_line};
 
-/// A header line, and the tokens of the lines behind it.
+/// A header line, and the tokens of the lines after it.
 #[derive(Clone, Copy)]
 pub(crate) struct HeaderLine<'a> {
     pub line: u32,
@@ -15,7 +15,7 @@ pub(crate) struct HeaderLine<'a> {
     pub rest: &'a [Token],
 }
 
-// The tokens behind the first.
+// The tokens after the first.
 fn behind_first(tokens: &[Token]) -> &[Token]
     requires { 0 < length tokens.now }
     ensures { result.now ≡ drop 1 tokens.now }

@@ -14,7 +14,7 @@ other_text (Some digit) = digit ∷ []
 abbrev pub name_text : Name → Text
 name_text n = n.stem ∷ n.index ∷ other_text n.other
 
--- a line that assigns two names with a sign between them
+-- a line that assigns to a name two others with a sign between them
 abbrev pub assignment_line : Text → Text → ℕ → Text → Text
 assignment_line name a sign b = name ++ codes " = " ++ a ++ 32 ∷ sign ∷ 32 ∷ b ++ 10 ∷ []
 

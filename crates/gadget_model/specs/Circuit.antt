@@ -40,7 +40,7 @@ value_of x r earlier (copy a) = earlier a
 value_of x r earlier (sum_of a b) = add (earlier a) (earlier b)
 value_of x r earlier (product_of a b) = earlier a && earlier b
 
--- What is computed of the wires one after the other: what there is already, and behind it what each further node gives,
+-- What is computed of the wires one after the other: what there is already, and after it what each further node gives,
 -- from what the earlier wires have and from its own number. A wire that isn't there has `none`.
 abbrev pub wires_from : {A : Type 0} → A → ((ℕ → A) → ℕ → Node → A) → List A → List Node → List A
 wires_from none give done [] = done

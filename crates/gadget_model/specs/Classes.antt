@@ -1,5 +1,5 @@
 -- The class of gadgets for which elimination over the randoms decides exactly what is simulatable: the randoms are only
--- added (Belaid et al., CRYPTO 2020), and no wire is of degree above two in the shares.
+-- added (Belaïd et al., CRYPTO 2020), and no wire is of degree above two in the shares.
 use Rattle.std.specs.Prelude.{◌≡◌, ◌≢◌, ℕ, ◌<◌, List, length, Contains, Some, slice_get}
 use Rattle.gadget_model.specs.Circuit.{Circuit, nodes, share, random}
 use Rattle.gadget_limits.specs.Limits.{most_monomials}

@@ -16,7 +16,7 @@ no_more : (blank : Bool) (b : ℕ) (bs : List ℕ) → is_blank b ≡ blank → 
 no_more true b bs e ih = ap blanks (drop_more (blanks bs) b bs) ∙ ih
 no_more false b bs e ih = ap (λ (z : Bool). cond z (1 + blanks bs) 0) e
 
--- no blanks stand behind those in front
+-- no blanks stand after those in front
 pub blanks_behind : (xs : List ℕ) → blanks (drop (blanks xs) xs) ≡ 0
 blanks_behind [] = refl
 blanks_behind (b ∷ bs) = no_more (is_blank b) b bs refl (blanks_behind bs)

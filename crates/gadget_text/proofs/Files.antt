@@ -27,7 +27,7 @@ last_line : (xs : List ℕ) → length xs ≤ first_len xs → pieces_of xs ≡ 
 last_line [] l = refl
 last_line (b ∷ xs) l = last_by_cases (is_feed b) b xs (omega (arith, l)) (last_line xs)
 
--- the first line, and those behind its line feed
+-- the first line, and those after its line feed
 first_line : (xs : List ℕ) (n : ℕ) → n ≡ first_len xs → n < length xs → pieces_of xs ≡ take n xs ∷ pieces_of (drop (n + 1) xs)
 first_line xs n e l =
     let k : first_len xs < length xs = omega (arith, e, l) in
@@ -37,7 +37,7 @@ first_line xs n e l =
 only_line : (xs : List ℕ) (n : ℕ) → n ≡ first_len xs → n ≡ length xs → pieces_of xs ≡ take n xs ∷ []
 only_line xs n e f = last_line xs (omega (arith, e, f)) ∙ ap (λ (z : List ℕ). z ∷ []) (sym (take_all n xs (omega (arith, f))))
 
--- the tokens of a line are added, and those of the lines behind it are left
+-- the tokens of a line are added, and those of the lines after it are left
 pub tokens_on : (number at n : ℕ) (rest line : List ℕ) (old new all : List Token) → n ≡ first_len rest → n < length rest → line ≡ without_return (take n rest) →
     new ≡ old ++ placed number at (line_segments line) → old ++ placed_lines number at (pieces_of rest) ≡ all →
     new ++ placed_lines (number + 1) (at + (n + 1)) (pieces_of (drop (n + 1) rest)) ≡ all

@@ -16,7 +16,7 @@ use Rattle.gadget_text.specs.Segments.{gap, token, segments, header_segments}
 use Rattle.gadget_text.specs.Places.{placed}
 use Rattle.gadget_text.proofs.Blanks.{blanks}
 
--- the token of a header, and those behind it
+-- the token of a header, and those after it
 abbrev pub header_tokens : ℕ → Header → ℕ → ℕ → List ℕ → List Token
 header_tokens line h at to rest = record { kind = Head h; from = at; to = to; line = line } ∷ placed line to (segments Solid rest)
 
@@ -36,7 +36,7 @@ header_by_cases false line from h b bs zero at to (suc end) e l p q r ih =
     ∙ ap (λ (z : ℕ). header_tokens line h at to (drop z bs)) k
 header_by_cases false line from h b bs (suc n) at to (suc end) e l p q r ih = absurd (omega (arith, e))
 
--- the token of a header stands behind the blanks
+-- the token of a header stands after the blanks
 pub header_placed : (line from : ℕ) (h : Header) (xs : List ℕ) (n at to end : ℕ) → n ≡ blanks xs → n < length xs → at ≡ from + n → to ≡ from + end → end ≡ n + 1 + length (header_word h) →
     placed line from (header_segments h xs) ≡ header_tokens line h at to (drop end xs)
 header_placed line from h [] n at to end e l p q r = absurd (omega (arith, l))
@@ -86,7 +86,7 @@ found_some : (P : Header → Type 0) (o : Option Header) (h : Header) → IfSome
 found_some P None h f e = absurd cc
 found_some P (Some g) h f e = let s : g ≡ h = cc in subst P s f
 
--- the word of a header line stands behind its `#`, before the next one
+-- the word of a header line stands after its `#`, before the next one
 pub header_starts : (h : Header) (bs : List ℕ) → hash_kind (header_behind bs) ≡ HeaderLine h → Starts bs h
 header_starts h bs e = found_some (Starts bs) (header_behind bs) h (behind_some (Starts bs) bs (λ g. word_starts g bs)) e
 
@@ -112,7 +112,7 @@ pub header_room : (h : Header) (line : List ℕ) → line_kind line ≡ HeaderLi
 header_room h [] e = absurd cc
 header_room h (b ∷ bs) e = room_by_cases (is_blank b) h b bs refl e (header_room h bs)
 
--- the token of a header is added, and then those behind it
+-- the token of a header is added, and then those after it
 pub header_added : (line from : ℕ) (h : Header) (xs rest : List ℕ) (n at to end : ℕ) (old new : List Token) → n ≡ blanks xs → n < length xs → at ≡ from + n → to ≡ from + end → end ≡ n + 1 + length (header_word h) →
     rest ≡ drop end xs → new ≡ old ++ record { kind = Head h; from = at; to = to; line = line } ∷ [] →
     new ++ placed line to (segments Solid rest) ≡ old ++ placed line from (header_segments h xs)

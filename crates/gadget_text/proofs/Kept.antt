@@ -30,7 +30,7 @@ kept_by_cases true b bs (suc n) (suc k) e f ih =
 kept_by_cases false b bs zero (suc k) e f ih = ap (λ (z : List ℕ). b ∷ z) (before_is bs k (omega (arith, f)))
 kept_by_cases false b bs (suc n) (suc k) e f ih = absurd (omega (arith, e))
 
--- the kept part ends where the next `#` behind the first byte that is no blank stands
+-- the kept part ends where the next `#` after the first byte that is no blank stands
 pub kept_before : (xs : List ℕ) (n k : ℕ) → n ≡ blanks xs → k ≡ n + 1 + position_or_len is_hash (drop (n + 1) xs) → take k xs ≡ kept_part xs
 kept_before [] n zero e f = refl
 kept_before [] n (suc k) e f = refl

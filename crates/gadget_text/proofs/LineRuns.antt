@@ -91,7 +91,7 @@ file_runs bytes = lines_runs bytes 1 0 (pieces_of bytes) (sym (fed_file bytes))
 abbrev pub is_of : ℕ → Token → Bool
 is_of number u = eqb u.line number
 
--- the run that t begins with so many more tokens, and the runs behind it
+-- the run that t begins with so many more tokens, and the runs after it
 abbrev run_of : Token → ℕ → List Token → List (List Token)
 run_of t n ts = (t ∷ take n ts) ∷ runs_by_line (drop n ts)
 

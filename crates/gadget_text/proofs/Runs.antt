@@ -78,7 +78,7 @@ run_len : (words : Words) (w rest : List ℕ) → list_all (is_in_word words) w 
 run_len words [] rest e f = sym f
 run_len words (b ∷ w) rest e f = more_by_cases (is_in_word words b) (length w) (prefix_len (is_in_word words) (w ++ rest)) (list_all (is_in_word words) w) e (λ g. run_len words w rest g f)
 
--- bytes of a word, with another one behind them, are a word
+-- bytes of a word, with another one after them, are a word
 pub word_whole : (words : Words) (w rest : List ℕ) → list_all (is_in_word words) w ≡ true → 0 < length w → prefix_len (is_in_word words) rest ≡ 0 → segments words (w ++ rest) ≡ token Word w ∷ segments words rest
 word_whole words w rest e l f =
     word_run words (w ++ rest) (length w) (run_len words w rest e f) l

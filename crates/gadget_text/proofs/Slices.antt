@@ -16,7 +16,7 @@ abbrev pub fed : List (List ℕ) → List ℕ
 fed pieces = join_with_byte 10 pieces
 
 module _ (bytes : List ℕ) where
-  -- what stands behind some bytes
+  -- what stands after some bytes
   drop_on : (at : ℕ) (w rest : List ℕ) → drop at bytes ≡ w ++ rest → drop (at + length w) bytes ≡ rest
   drop_on at w rest e = sym (drop-drop (length w) at bytes) ∙ ap (drop (length w)) e ∙ drop_at w rest (length w) refl
 

@@ -123,7 +123,7 @@ pub record HasLexemes (line : List ℕ) (lexemes : List Lexeme) : Type 0 where
   pub printed : AllByRecursion IsPrinted line
   pub reads : line_lexemes line ≡ lexemes
 
--- a header with words behind it has the tokens of the header and of these
+-- a header with words after it has the tokens of the header and of these
 pub HasLexemes-header : (h : Header) (ws : List (List ℕ)) → AllByRecursion IsWord ws →
     HasLexemes (join_with_byte 32 ((35 ∷ header_word h) ∷ ws)) (header_lexeme h ∷ map word_lexeme ws)
 HasLexemes-header h ws k =
@@ -140,7 +140,7 @@ HasLexemes-header h ws k =
 abbrev pub sign_lexeme : TokenKind → ℕ → Lexeme
 sign_lexeme kind b = record { kind = kind; text = b ∷ [] }
 
--- a name that stands behind a space
+-- a name that stands after a space
 named_lexemes : (w : List ℕ) (ws : List (List ℕ)) → IsNamed w → without_gaps (segments Named (spaced (w ∷ ws))) ≡ word_lexeme w ∷ without_gaps (segments Named (spaced ws))
 named_lexemes w ws h = ap without_gaps (word_whole Named w (spaced ws) h.letters h.some (named_behind ws))
 
@@ -151,7 +151,7 @@ assignment_lexemes b xs h p =
     ∙ ap (λ (t : Bool). without_gaps (kept_segments (cond t (hash_kind (header_behind xs)) Assignment) (b ∷ before_hash xs))) (unhashed b (plain_solid b h))
     ∙ ap (λ (z : List ℕ). without_gaps (segments Named (b ∷ z))) (before_plain xs p)
 
--- a name in front, and what stands behind it
+-- a name in front, and what stands after it
 assignment_from : (x rest : List ℕ) (lexemes : List Lexeme) → IsNamed x → AllByRecursion IsPlain rest → prefix_len (is_in_word Named) rest ≡ 0 →
     without_gaps (segments Named rest) ≡ lexemes → HasLexemes (x ++ rest) (word_lexeme x ∷ lexemes)
 assignment_from [] rest lexemes h p q e = absurd (omega (arith, h.some))

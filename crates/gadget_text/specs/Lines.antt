@@ -29,7 +29,7 @@ header_word In = codes "IN"
 header_word Randoms = codes "RANDOMS"
 header_word Out = codes "OUT"
 
--- behind a header's word stands a blank or `#`, or the line ends
+-- after a header's word stands a blank or `#`, or the line ends
 abbrev pub ends_header : List ℕ → Bool
 ends_header [] = true
 ends_header (b ∷ bs) = is_blank b || is_hash b
@@ -38,7 +38,7 @@ ends_header (b ∷ bs) = is_blank b || is_hash b
 unfoldable pub has_header : Header → List ℕ → Bool
 has_header h bs = starts_with nat_eq bs (header_word h) && ends_header (drop (length (header_word h)) bs)
 
--- which header stands directly behind `#`
+-- which header stands directly after `#`
 unfoldable pub header_behind : List ℕ → Option Header
 header_behind bs =
     if has_header Profile bs then Some Profile
@@ -47,7 +47,7 @@ header_behind bs =
     else (if has_header Randoms bs then Some Randoms
     else (if has_header Out bs then Some Out else None))))
 
--- a line that begins with `#` is a header line where a header stands behind it, and otherwise a comment
+-- a line that begins with `#` is a header line where a header stands after it, and otherwise a comment
 abbrev pub hash_kind : Option Header → LineKind
 hash_kind None = Comment
 hash_kind (Some h) = HeaderLine h

@@ -15,7 +15,7 @@ placed number at (gap b ∷ segments) = placed number (at + 1) segments
 placed number at (token kind text ∷ segments) =
     record { kind = kind; from = at; to = at + length text; line = number } ∷ placed number (at + length text) segments
 
--- The tokens of the pieces between line feeds, the first of which has this number and stands at this place. Behind each
+-- The tokens of the pieces between line feeds, the first of which has this number and stands at this place. After each
 -- stands a line feed, and a carriage return that was dropped keeps its place.
 abbrev pub placed_lines : ℕ → ℕ → List (List ℕ) → List Token
 placed_lines number at [] = []

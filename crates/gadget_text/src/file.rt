@@ -164,7 +164,7 @@ fn line_len(bytes: &[u8]) -> usize
     bytes.len()
 }
 
-// What stands behind a line with so many bytes and its line feed.
+// What stands after a line with so many bytes and its line feed.
 fn behind_line(bytes: &[u8], len: usize) -> &[u8]
     requires { len < length bytes.now }
     ensures { result.now ≡ drop (len + 1) bytes.now }

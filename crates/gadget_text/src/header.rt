@@ -40,7 +40,7 @@ fn has_header(header: Header, bytes: &[u8]) -> bool
     }
 }
 
-/// Which header stands directly behind `#`.
+/// Which header stands directly after `#`.
 #[tactic(auto, unfolding(crate::specs::Lines::header_behind))]
 pub(crate) fn header_behind(bytes: &[u8]) -> Option<Header>
     ensures { result ≡ header_behind bytes.now }

@@ -31,7 +31,7 @@ pub fn lines_law()
         runs_by_line (t ∷ ts) ≡ (t ∷ take n ts) ∷ runs_by_line (drop n ts) }
 {}
 
-/// Bytes of a word are one word where no other byte of a word stands behind them.
+/// Bytes of a word are one word where no other byte of a word stands after them.
 pub fn words_law()
     ensures { (words : Words) (w rest : List ℕ) →
         list_all (is_in_word words) w ≡ true → 0 < length w → prefix_len (is_in_word words) rest ≡ 0 →

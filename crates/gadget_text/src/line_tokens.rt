@@ -6,7 +6,7 @@ ghost use Rattle.gadget_text.specs.Places.{line_of, lines_in};
 
 use crate::token::Token;
 
-/// The tokens of a line, and those of the lines behind it.
+/// The tokens of a line, and those of the lines after it.
 #[derive(Clone, Copy)]
 pub struct LineTokens<'a> {
     /// The line's number, counted from 1.
@@ -29,7 +29,7 @@ fn run_len(line: u32, tokens: &[Token]) -> usize
     tokens.len()
 }
 
-// The tokens of the first line, of which there are so many, and those behind them.
+// The tokens of the first line, of which there are so many, and those after them.
 fn split_at<'a>(line: u32, tokens: &'a [Token], len: usize) -> LineTokens<'a>
     requires { len ≤ length tokens.now }
     ensures line { result.line ≡ line }

@@ -11,7 +11,7 @@ fn starts_stem(b: u8) -> bool
     b.is_ascii_alphabetic() || b == b'_'
 }
 
-// What may stand behind the first byte of a stem.
+// What may stand after the first byte of a stem.
 fn continues_stem(bytes: &[u8]) -> bool
     ensures { result ≡ list_all continues_stem bytes.now }
 {
@@ -61,7 +61,7 @@ fn dot_place(word: &[u8]) -> usize
     word.len()
 }
 
-// What stands behind the dot at a place.
+// What stands after the dot at a place.
 fn behind_dot(word: &[u8], dot: usize) -> &[u8]
     requires { dot < length word.now }
     ensures { result.now ≡ drop (dot + 1) word.now }

@@ -120,7 +120,7 @@ headers_end h [] e = refl
 headers_end h (line ∷ lines) e =
     ap (λ (z : Option Header). at_line line.number h (header_words line.lexemes) (λ s. headers_from s lines) (end_headers h (line ∷ lines)) z) e
 
--- the lines behind the line `#IN`
+-- the lines after the line `#IN`
 abbrev later : List (List ℕ) → List (List ℕ) → List TokenLine → List TokenLine
 later randoms outputs lines = scripted_from 3 (random_scripts randoms ++ header_script Out outputs ∷ []) ++ lines
 

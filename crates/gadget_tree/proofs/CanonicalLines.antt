@@ -24,11 +24,11 @@ pub record IsRead (l : Script) : Type 0 where
   pub printed : AllByRecursion IsPrinted (line_text l)
   pub lexemes : line_lexemes (line_text l) ≡ l.first ∷ l.others
 
--- the bytes of lines, with a line feed behind each
+-- the bytes of lines, with a line feed after each
 abbrev pub text_from : List Script → List ℕ
 text_from ls = flat_map (λ l. line_text l ++ 10 ∷ []) ls
 
--- the lines of the text: behind the last line feed stands an empty one
+-- the lines of the text: after the last line feed stands an empty one
 abbrev lines_from : List Script → List (List ℕ)
 lines_from [] = [] ∷ []
 lines_from (l ∷ ls) = line_text l ∷ lines_from ls

@@ -27,7 +27,7 @@ operation_words names x (copy a) = x ∷ (61 ∷ []) ∷ get_or names a [] ∷ [
 operation_words names x (sum_of a b) = x ∷ (61 ∷ []) ∷ get_or names a [] ∷ (43 ∷ []) ∷ get_or names b [] ∷ []
 operation_words names x (product_of a b) = x ∷ (61 ∷ []) ∷ get_or names a [] ∷ (42 ∷ []) ∷ get_or names b [] ∷ []
 
--- the tokens behind the name
+-- the tokens after the name
 abbrev pub operation_lexemes : List (List ℕ) → Node → List Lexeme
 operation_lexemes names (share k) = []
 operation_lexemes names (random k) = []

@@ -128,7 +128,7 @@ text_scripted g input_line random_line randoms operations h =
     ap (flat_map line) (lines_scripted g input_line random_line randoms operations h)
     ∙ flat_map-map line (λ (l : Script). l.words) (gadget_scripts g randoms operations)
 
--- the lines behind the headers
+-- the lines after the headers
 abbrev pub body_lines : Circuit → List (List ℕ) → List Variable → List TokenLine
 body_lines g randoms operations =
     scripted_from (1 + length (header_scripts g.shares g.inputs randoms g.outputs)) (map (operation_script (names_of g.variables)) operations)

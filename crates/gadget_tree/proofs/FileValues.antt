@@ -21,7 +21,7 @@ use Rattle.gadget_tree.proofs.LinesAmong.{assignment_behind, later_variables, Is
 use Rattle.gadget_tree.specs.Values.{HasPart}
 use Rattle.gadget_tree.proofs.NamedValues.{HasBit, first_values, line_values}
 
--- the variables of a gadget that was read are those behind the lines
+-- the variables of a gadget that was read are those after the lines
 pub read_variables : (bytes : List ℕ) (g : Circuit) (h : Preamble) (start vs : List Variable) → IsFileRead bytes g h start vs → g.variables ≡ vs
 read_variables bytes g h start vs read = ap (λ (c : Circuit). c.variables) (outputs_made h vs g read.outputs).0
 

@@ -11,7 +11,7 @@ use Rattle.gadget_tree.proofs.NamedVariables.{named_distinct}
 use Rattle.gadget_tree.proofs.MadeLines.{first_line_read, names_behind}
 use Rattle.gadget_tree.proofs.FileValues.{read_variables, same_preamble}
 
--- lines that are read make the wires behind the earlier ones
+-- lines that are read make the wires after the earlier ones
 lines_wires : (lines : List TokenLine) (earlier vs : List Variable) → LinesSay earlier lines (Ok vs) → AreWires (names_of earlier) lines (names_of vs)
 lines_wires [] earlier vs h = ap names_of (let e : vs ≡ earlier = cc in e)
 lines_wires (line ∷ lines) earlier vs h =

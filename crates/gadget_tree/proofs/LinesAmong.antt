@@ -1,4 +1,4 @@
--- The assignment lines of a file that is read, one by one: each stands behind the headers, and makes its variables between
+-- The assignment lines of a file that is read, one by one: each stands after the headers, and makes its variables between
 -- earlier and later ones.
 use Rattle.std.proofs.Common.{◌≡◌, List, [], ◌∷◌, ◌++◌, ℕ, Option, Some, None, Ok, refl, sym, ap, ◌∙◌, subst, inl, inr, length, Contains, append-nil, append_assoc}
 use Rattle.gadget_model.specs.Circuit.{Variable}
@@ -38,7 +38,7 @@ pub assignment_is_no_header : (lexemes : List Lexeme) (name : List ℕ) (tree : 
 assignment_is_no_header [] name tree h = refl
 assignment_is_no_header (first ∷ others) name tree h = word_is_no_header first.kind first.text name (ap (first_or (word name)) h.spells)
 
--- where the headers end, the lines behind them are these
+-- where the headers end, the lines after them are these
 ended_lines : (now : SoFar) (lines : List TokenLine) (h : Preamble) → end_headers now lines ≡ Ok h → lines ≡ h.lines
 ended_lines now lines h e = by_cases now.shares now.inputs now.outputs e where
   by_cases : (n : Option ℕ) (inputs outputs : Option Listed) → end_headers (record now { shares = n; inputs = inputs; outputs = outputs }) lines ≡ Ok h → lines ≡ h.lines
@@ -48,7 +48,7 @@ ended_lines now lines h e = by_cases now.shares now.inputs now.outputs e where
   by_cases (Some n) (Some inputs) (Some outputs) f = at_ok (λ p. lines ≡ p.lines) (record { shares = n; inputs = inputs; randoms = now.randoms; outputs = outputs; lines = lines }) h f refl
 
 module _ (h : Preamble) (line : TokenLine) (no_header : header_of line.lexemes ≡ None) where
-  -- the first line is behind the headers where it is none, and those behind it where they are
+  -- the first line is after the headers where it is none, and those after it where they are
   line_behind : (first : TokenLine) (lines : List TokenLine) (now : SoFar) (o : Option Header) → header_of first.lexemes ≡ o → Contains (first ∷ lines) line →
       ((next : SoFar) → headers_from next lines ≡ Ok h → Contains lines line → Contains h.lines line) →
       at_line first.number now (header_words first.lexemes) (λ next. headers_from next lines) (end_headers now (first ∷ lines)) o ≡ Ok h → Contains h.lines line
@@ -65,11 +65,11 @@ module _ (h : Preamble) (line : TokenLine) (no_header : header_of line.lexemes �
   from_behind [] now e stands = absurd (Contains-nil line stands)
   from_behind (first ∷ lines) now e stands = line_behind first lines now (header_of first.lexemes) refl stands (from_behind lines) e
 
--- an assignment line of a file is behind its headers
+-- an assignment line of a file is after its headers
 pub assignment_behind : (lines : List TokenLine) (h : Preamble) (line : TokenLine) (name : List ℕ) (tree : Tree) → preamble_of lines ≡ Ok h → Contains lines line → IsAssignment line.lexemes name tree → Contains h.lines line
 assignment_behind lines h line name tree e stands assigns = from_behind h line (assignment_is_no_header line.lexemes name tree assigns) lines no_headers e stands
 
--- lines that are read leave the earlier variables, and put others behind them
+-- lines that are read leave the earlier variables, and put others after them
 pub later_variables : (lines : List TokenLine) (earlier vs : List Variable) → LinesSay earlier lines (Ok vs) → (later : List Variable) × (vs ≡ earlier ++ later)
 later_variables [] earlier vs h = ([], (let e : vs ≡ earlier = cc in e) ∙ sym (append-nil earlier))
 later_variables (line ∷ lines) earlier vs h =
@@ -79,7 +79,7 @@ later_variables (line ∷ lines) earlier vs h =
     let makes = f.3.makes in
     (made ++ l.0, l.1 ∙ ap (λ (z : List Variable). z ++ l.0) makes ∙ append_assoc earlier made l.0)
 
--- a line that is read, between the variables before it and those behind it
+-- a line that is read, between the variables before it and those after it
 pub record IsLineAmong (line : TokenLine) (vs earlier : List Variable) (name : List ℕ) (tree : Tree) (now later : List Variable) : Type 0 where
   pub read : IsLine earlier line name tree now
   pub all : vs ≡ now ++ later

@@ -90,7 +90,7 @@ length-line_names name tree =
     let l = length-append inner (name ∷ []) in
     omega arith
 
--- the names and the nodes behind a line
+-- the names and the nodes after a line
 pub names_behind : (earlier : List Variable) (line : TokenLine) (name : List ℕ) (tree : Tree) (now : List Variable) → IsLine earlier line name tree now →
     (names_of now ≡ names_of earlier ++ line_names name tree) × (nodes_of now ≡ nodes_of earlier ++ line_nodes (place_of (names_of earlier)) (length earlier) tree)
 names_behind earlier line name tree now l =
@@ -101,7 +101,7 @@ names_behind earlier line name tree now l =
       ap nodes_of l.makes ∙ map-append (λ (v : Variable). v.node) earlier made ∙ ap (λ (z : List Node). nodes_of earlier ++ z) parts.1,
     )
 
--- how many variables there are behind it
+-- how many variables there are after it
 pub length_behind : (earlier : List Variable) (line : TokenLine) (name : List ℕ) (tree : Tree) (now : List Variable) → IsLine earlier line name tree now → length now ≡ length earlier + length (line_parts tree)
 length_behind earlier line name tree now l =
     let e = ap length (names_behind earlier line name tree now l).0 in

@@ -13,7 +13,7 @@ use Rattle.gadget_text.specs.declared.file_error.FileError.TheVariants.{OutputMi
 use Rattle.gadget_tree.specs.Variables.{share_name, share_names, names_of, is_among, place_of}
 use Rattle.gadget_tree.specs.File.{OutputShare, output_share, shares_of_output, output_shares_from, first_missing, offence_of, check_shares}
 
--- item i of a list made from a function of the index, between those before it and those behind it
+-- item i of a list made from a function of the index, between those before it and those after it
 split_at : {X : Type 0} (f : ℕ → X) (n i : ℕ) → i < n → map f (range_with_len 0 n) ≡ map f (range_with_len 0 i) ++ f i ∷ drop (suc i) (map f (range_with_len 0 n))
 split_at f n i l =
     let xs = map f (range_with_len 0 n) in
@@ -93,7 +93,7 @@ module _ (variables : List Variable) where
         sym (past (shares_of_output n k stem) rest none)
         ∙ sym (ap (λ (z : List (List ℕ)). check_shares variables (output_shares_from n k z)) texts_from) ∙ same
 
-    -- the numbers of output k, and those behind it
+    -- the numbers of output k, and those after it
     pub numbers_behind : (numbers more all : List ℕ) → numbers ++ map (place_of (names_of variables)) (share_names n (map (text_in bytes) (drop k words))) ≡ all →
         more ≡ numbers ++ map (place_of (names_of variables)) (map (share_name stem) (range_with_len 0 n)) →
         more ++ map (place_of (names_of variables)) (share_names n (map (text_in bytes) (drop (k + 1) words))) ≡ all

@@ -9,7 +9,7 @@ use Rattle.gadget_tree.specs.Variables.{is_among, place_of, AreDistinct}
 use Rattle.gadget_tree.proofs.Names.{contains_among, place_below, name_at_place}
 use Rattle.gadget_tree.proofs.Numbered.{AllFrom, AllFrom-from_get_or}
 
--- a name that stands keeps its place where more names come behind
+-- a name that stands keeps its place where more names come after
 pub place_of-append_left : (names more : List (List ℕ)) (w : List ℕ) → is_among names w ≡ true → place_of (names ++ more) w ≡ place_of names w
 place_of-append_left names more w e =
     let l = place_below names w e in

@@ -62,7 +62,7 @@ module _ (g : Circuit) (in_order : IsInOrder g) (distinct : AreDistinct (names_o
       (AllFrom-append_left (HasNode x r (value g x r)) 0 (nodes_of front) (nodes_of later) (subst (AllFrom (HasNode x r (value g x r)) 0) vs all_nodes))
 
   module _ (line : TokenLine) (earlier : List Variable) (name : List ℕ) (tree : Tree) (now later : List Variable) (l : IsLineAmong line g.variables earlier name tree now later) where
-    -- the names and the nodes before the line, of it, and behind it
+    -- the names and the nodes before the line, of it, and after it
     name_parts : names_of g.variables ≡ names_of earlier ++ line_names name tree ++ names_of later
     name_parts =
         ap names_of l.all ∙ map-append (λ (v : Variable). v.name) now later ∙ ap (λ (z : List (List ℕ)). z ++ names_of later) (names_behind earlier line name tree now l.read).0

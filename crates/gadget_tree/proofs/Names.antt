@@ -80,7 +80,7 @@ among_here names k w d l e =
     ap (λ (z : List (List ℕ)). is_among z w) (drop-cons names k d l)
     ∙ or_left (bytes_eq w (get_or names k d)) (is_among (drop (suc k) names) w) ((bytes_eq-Decides w (get_or names k d)).1 (sym e))
 
--- where another stands there, it is among those from there on exactly where it is among those behind
+-- where another stands there, it is among those from there on exactly where it is among those after
 pub among_behind : (names : List (List ℕ)) (k : ℕ) (w d : List ℕ) → k < length names → (get_or names k d ≡ w → ⊥) → is_among (drop (k + 1) names) w ≡ is_among (drop k names) w
 among_behind names k w d l other =
     let differs : bytes_eq w (get_or names k d) ≡ false = false_from_ne_true (bytes_eq w (get_or names k d)) (λ same. other (sym ((bytes_eq-Decides w (get_or names k d)).0 same))) in

@@ -83,7 +83,7 @@ module _ (randoms : ℕ) (names : List (List ℕ)) where
   top_below base (sum_of a b) few e = omega (arith, length-append (operations a ++ operations b) (sum_of a b ∷ []), length-append (operations a) (operations b))
   top_below base (product_of a b) few e = omega (arith, length-append (operations a ++ operations b) (product_of a b ∷ []), length-append (operations a) (operations b))
 
-  -- an operation behind those of both sides
+  -- an operation after those of both sides
   both_in_order : (base : ℕ) (a b : Tree) (v : Node) → AllNameEarlier randoms base (operation_nodes (place_of names) base a) →
       AllNameEarlier randoms (base + length (operations a)) (operation_nodes (place_of names) (base + length (operations a)) b) →
       NamesEarlier randoms (base + length (operations a) + length (operations b)) v →

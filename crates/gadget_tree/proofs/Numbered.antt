@@ -11,7 +11,7 @@ AllFrom P n (x ∷ xs) = P n x × AllFrom P (n + 1) xs
 AllFrom-same : {A : Type 0} (P : ℕ → A → Type 0) (m n : ℕ) (xs : List A) → m ≡ n → AllFrom P m xs → AllFrom P n xs
 AllFrom-same P m n xs e h = subst (λ k. AllFrom P k xs) e h
 
--- more elements behind these
+-- more elements after these
 pub AllFrom-append : {A : Type 0} (P : ℕ → A → Type 0) (n : ℕ) (xs ys : List A) → AllFrom P n xs → AllFrom P (n + length xs) ys → AllFrom P n (xs ++ ys)
 AllFrom-append P n [] ys h k = AllFrom-same P (n + 0) n ys (omega arith) k
 AllFrom-append P n (x ∷ xs) ys h k = (h.0, AllFrom-append P (n + 1) xs ys h.1 (AllFrom-same P (n + suc (length xs)) (n + 1 + length xs) ys (omega arith) k))
@@ -25,7 +25,7 @@ pub AllFrom-append_right : {A : Type 0} (P : ℕ → A → Type 0) (n : ℕ) (xs
 AllFrom-append_right P n [] ys h = AllFrom-same P n (n + 0) ys (omega arith) h
 AllFrom-append_right P n (x ∷ xs) ys h = AllFrom-same P (n + 1 + length xs) (n + suc (length xs)) ys (omega arith) (AllFrom-append_right P (n + 1) xs ys h.1)
 
--- a part in the middle, behind so many elements
+-- a part in the middle, after so many elements
 pub AllFrom-middle : {A : Type 0} (P : ℕ → A → Type 0) (n : ℕ) (xs ys zs : List A) → length xs ≡ n → AllFrom P 0 (xs ++ ys ++ zs) → AllFrom P n ys
 AllFrom-middle P n xs ys zs e h =
     AllFrom-same P (0 + length xs) n ys (omega arith) (AllFrom-append_right P 0 xs ys (AllFrom-append_left P 0 (xs ++ ys) zs h))

@@ -23,7 +23,7 @@ use Rattle.gadget_tree.proofs.Nodes.{AllNameEarlier, line_nodes_are, line_in_ord
 use Rattle.gadget_tree.proofs.HeaderVariables.{nodes_of}
 use Rattle.gadget_tree.proofs.MadeLines.{IsLine, first_line_read, names_behind, length_behind}
 
--- The variables so far, behind those of the headers, with so many randoms: not too many, with names of their own, in order, and
+-- The variables so far, after those of the headers, with so many randoms: not too many, with names of their own, in order, and
 -- operations under names.
 pub record IsPrefix (randoms : ℕ) (start vs : List Variable) : Type 0 where
   pub few : length vs ≤ most_variables
@@ -50,7 +50,7 @@ apart names (name ∷ more) e a b h k =
       | inr l ↦ apart names more p.1 a b h l
     ]
 
--- the nodes of a line stand in order behind the earlier ones
+-- the nodes of a line stand in order after the earlier ones
 line_order : (randoms : ℕ) (earlier : List Variable) (tree : Tree) → list_all (is_among (names_of earlier)) (leaves tree) ≡ true →
     AllNameEarlier randoms (0 + length (nodes_of earlier)) (line_nodes (place_of (names_of earlier)) (length earlier) tree)
 line_order randoms earlier tree known =

@@ -12,7 +12,7 @@ use Rattle.gadget_text.proofs.Results.{then_gives}
 use Rattle.gadget_tree.specs.File.{file_headers, named_variables, Follows, LinesSay, with_outputs, BodySays, FileSays}
 use Rattle.gadget_tree.proofs.Follows.{follows_ok}
 
--- what was said on the way to a gadget: the headers, the variables that they name, all variables behind the lines, and the gadget
+-- what was said on the way to a gadget: the headers, the variables that they name, all variables after the lines, and the gadget
 pub record IsFileRead (bytes : List ℕ) (g : Circuit) (h : Preamble) (start variables : List Variable) : Type 0 where
   pub headers : preamble_of (token_lines bytes) ≡ Ok h
   pub names : named_variables h ≡ Ok start

@@ -42,7 +42,7 @@ after_steps-append : (look : List ℕ → ℕ) (base : ℕ) (m : Making) (xs ys 
 after_steps-append look base m [] ys = refl
 after_steps-append look base m (x ∷ xs) ys = after_steps-append look base (after_step look base m x) xs ys
 
--- what is made behind the steps of a tree, where these numbers wait and these nodes were made before
+-- what is made after the steps of a tree, where these numbers wait and these nodes were made before
 abbrev behind : (List ℕ → ℕ) → ℕ → List ℕ → List Node → Tree → Making
 behind look next stack nodes t = record { stack = top look next t ∷ stack; nodes = nodes ++ operation_nodes look next t }
 

@@ -51,7 +51,7 @@ pub not-inner : (name : List ℕ) (count : ℕ) (w : List ℕ) → ((digits : Li
 not-inner name count w h =
     sym (false_from_ne_true (is_among (inner_names name count) w) (λ e. let k = (inner-Decides name count w).0 e in h (decimal k.0) (k.3 ∙ inner_is name k.0)))
 
--- what stands behind the name and a dot decides
+-- what stands after the name and a dot decides
 pub inner-from_digits : (name : List ℕ) (count : ℕ) (w digits : List ℕ) → count < 2 ^ 64 → w ≡ name ++ 46 ∷ digits → continues_below count 0 digits ≡ is_among (inner_names name count) w
 inner-from_digits name count w digits small e =
     same_from_decides (continues_below count 0 digits) (is_among (inner_names name count) w)

@@ -30,7 +30,7 @@ module _ (x : ℕ → Bool) (r : List Bool) (have : ℕ → Bool) (names : List 
   abbrev HasParts : ℕ → Tree → Type 0
   HasParts base t = AllFrom (HasTree have of_name) base (operations t) × HasTree have of_name (top look base t) t
 
-  -- an operation behind those of both sides
+  -- an operation after those of both sides
   both_values : (base : ℕ) (a b t : Tree) (v : Node) →
       AllFrom (HasNode x r have) base (operation_nodes look base a ++ operation_nodes look (base + length (operations a)) b ++ v ∷ []) →
       (AllFrom (HasNode x r have) base (operation_nodes look base a) → HasParts base a) →

@@ -22,7 +22,7 @@ LosesAtMost before after most = (taken : List ℕ) × (before ≡ prepend_known 
 abbrev pub IsLonger : Option (List ℕ) → ℕ → Type 0
 IsLonger told max = IfSome told (λ bytes. max < length bytes)
 
--- a front of the bytes, and not all of them, was put behind what was written
+-- a proper prefix of the bytes was put after what was written
 abbrev pub AppendsProperPrefix : Option (List ℕ) → Option (List ℕ) → List ℕ → Type 0
 AppendsProperPrefix before after bytes =
     (count : ℕ) × (count < length bytes) × (after ≡ append_known before (take count bytes))

@@ -19,7 +19,7 @@ pub trait Sink {
     fn write(&mut self, piece: &[u8]) -> Result<usize, Failed>
         requires { 0 < length piece.now }
 
-        // What was taken of the piece stands behind what was written before.
+        // What was taken of the piece stands after what was written before.
         ensures some { IfOk result (λ count. 0 < count) }
         ensures bound { IfOk result (λ count. count ≤ length piece.now) }
         ensures appended { IfOk result

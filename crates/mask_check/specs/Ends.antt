@@ -137,10 +137,6 @@ abbrev pub Reaches : {S K : Type 0} → List (List ℕ) → Run S K → Status �
 Reaches words run status text =
     Reads words run.reading (λ s g. IsFeasible s g × Answers s g run.tallies status text)
 
--- the words ask for some check
-abbrev pub IsAsked : List (List ℕ) → Type 0
-IsAsked words = (s : Settings) × (words_ask words ≡ Ok s)
-
 -- the words ask for some check that reads its file
 abbrev pub AsksToRead : List (List ℕ) → Type 0
 AsksToRead words = (s : Settings) × (words_ask words ≡ Ok s) × (made_file s ≡ None)

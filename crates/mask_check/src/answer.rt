@@ -37,8 +37,8 @@ pub(crate) struct QuestionAnswer {
     pub coefficients: Vec<u128>,
 }
 
-/// The answer of a check with these settings of a gadget, of which this is the table, or why there is none. Where the
-/// settings ask for tallies, each of these is fed the failing tuples.
+/// The answer of a check with these settings, of a gadget with this table, or why there is none. Where the settings ask
+/// for tallies, each of `tallies` is fed the failing tuples.
 pub(crate) fn decide<R: Threads + Sync, G: Gate>(
     rt: &R,
     alloc: Global,

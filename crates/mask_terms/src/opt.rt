@@ -14,7 +14,7 @@ pub enum Opt {
     Block,
     /// How many tuples may be looked at.
     Budget,
-    /// How many words the first table has.
+    /// How many words the first shared table is to have. There is none yet, so it changes nothing.
     FirstWords,
     /// Which wires leak, and how many copies of each.
     Wires,

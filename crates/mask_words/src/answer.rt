@@ -5,6 +5,7 @@ use mask_terms::{Task, UsageKind, Wires};
 /// How a gadget is to be checked.
 #[derive(Clone, Copy, Debug, PartialEq, Eq, Drop)]
 pub struct Settings {
+    /// What is asked.
     pub task: Task,
     /// The task's order; a demonstration's number of shares.
     pub t: u8,
@@ -16,11 +17,11 @@ pub struct Settings {
     pub block: u64,
     /// How many tuples may be looked at.
     pub budget: u64,
-    /// How many words the first table has.
+    /// How many words the first shared table is to have. There is none yet, so it changes nothing.
     pub words: u32,
     /// Which wires leak.
     pub wires: Wires,
-    /// Whether the report tells how many tuples failed.
+    /// Whether tallies are fed the failing tuples, and the report ends with their counts.
     pub tallies: bool,
 }
 

@@ -37,19 +37,19 @@ const LEAST_WORDS: u64 = 4;
 /// A table has at most this many words.
 const MOST_WORDS: u64 = 67108864;
 
-/// What stands for `--size`.
+/// The greatest size of a tuple where `--size` isn't given.
 const DEFAULT_SIZE: u64 = 3;
 
-/// What stands for `--workers`.
+/// How many workers there are where `--workers` isn't given.
 const DEFAULT_WORKERS: u64 = 4;
 
-/// What stands for `--block`.
+/// How many tuples a worker takes at once where `--block` isn't given.
 const DEFAULT_BLOCK: u64 = 4096;
 
-/// What stands for `--budget`.
+/// How many tuples may be looked at where `--budget` isn't given.
 const DEFAULT_BUDGET: u64 = 16777216;
 
-/// What stands for `--words`.
+/// How many words the first table is to have where `--words` isn't given.
 const DEFAULT_WORDS: u64 = 65536;
 
 /// An option that takes a number: its range, and what stands for it where it isn't given.

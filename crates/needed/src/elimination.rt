@@ -39,7 +39,7 @@ impl<'t> Elimination<'t> {
     pub fn make(alloc: Global, table: &'t WireTable) -> Result<Elimination<'t>, OutOfMemory>
         ensures { IfOk result (λ elimination. elimination ≡ table.now) }
     {
-        // Its contract says what holds of each table.
+        // Called for its contract alone, which says what holds of every table.
         let _vars = table.vars();
         let scratch = Scratch::make(alloc, table)?;
         let prefixes = Prefixes::new();

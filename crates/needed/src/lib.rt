@@ -32,7 +32,7 @@ pub fn needed(table: &WireTable, scratch: &mut Scratch, vars: &[u16]) -> u64
     ensures least { (g : Circuit) (set : ℕ) → StandsFor table.now g →
         IsSimulatable g vars.now set ↔ IsWithin result set }
 {
-    // Its contract says what holds of each table.
+    // Called for its contract alone, which says what holds of every table.
     let _vars = table.vars();
     Prefixes::new().needed(table, scratch, vars)
 }

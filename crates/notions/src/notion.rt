@@ -34,6 +34,7 @@ impl Notion {
 pub enum NotionError {
     /// Strong non-interference speaks of gadgets with one output, and this one has two.
     SeveralOutputs,
+    /// Memory ran out.
     OutOfMemory,
 }
 

@@ -63,7 +63,7 @@ impl<'g> NotionQuery<'g> {
         if notion == Notion::Sni && gadget.outputs().len() > 1 {
             return Err(NotionError::SeveralOutputs);
         }
-        // The reader's contract says what holds of each gadget.
+        // Called for its contract alone, which says what holds of every gadget.
         let _vars = gadget.vars();
         let list = items_of(alloc, gadget, notion)?;
         Ok(NotionQuery {

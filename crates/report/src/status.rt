@@ -31,6 +31,7 @@ pub enum Status {
     No,
     /// The report lists the minimal failing sets of wires of each event.
     Listed,
+    /// The words of the command line are wrong in this part.
     Usage(UsageKind),
     /// `--size` or `--wires` was given with a task that uses neither.
     SizeNotUsed,
@@ -40,11 +41,15 @@ pub enum Status {
     Wires(WireError),
     /// The file has more than 1,048,576 bytes.
     TooLong,
+    /// The gadget doesn't suit the task.
     NotForGadget(NotFor),
     /// So many tuples would have to be looked at, which is more than the budget.
     Budget(u64),
+    /// The source failed.
     ReadFault,
+    /// The sink failed; a part of the report may have been written.
     WriteFault,
+    /// Memory ran out.
     OutOfMemory,
 }
 

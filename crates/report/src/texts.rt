@@ -167,7 +167,7 @@ fn many_row(what: What) -> StatusRow
     refused
 }
 
-// Too large a number, and which.
+// A text, and after it the number that is too large.
 fn count_row(exit: u8, text: &str, count: u64) -> StatusRow
     requires { length text.now ≤ 50 }
     ensures { result ≡ row exit (text.now ++ decimal count) }

@@ -1,5 +1,5 @@
 -- The events of random probing: what of the outputs has to be simulated beside the leaking wires, and from which input
--- shares it may not be (after Belaid, Coron, Prouff, Rivain and Taleb, CRYPTO 2020; the events that are counted, and
+-- shares it may not be (after Belaïd, Coron, Prouff, Rivain and Taleb, CRYPTO 2020; the events that are counted, and
 -- how the simulator chooses, are this project's own).
 use Rattle.std.specs.Prelude.{◌≡◌, ◌≢◌, ℕ, ◌+◌, ◌*◌, ◌-◌, ◌^◌, ◌==◌, Bool, false, List, [], ◌∷◌, ◌++◌, length, map, flat_map, codes, if◌then◌else◌, nat_lt, nat_le, slice_index_or, replicate, Option, Some, None, Result, Ok, Err}
 use Rattle.std.specs.List.{sum}

@@ -1,6 +1,6 @@
 //! Random probing: which tuples of leaking wires fail for an event.
 //!
-//! The events are after Belaid, Coron, Prouff, Rivain and Taleb, CRYPTO 2020. Which wires leak, which events are
+//! The events are after Belaïd, Coron, Prouff, Rivain and Taleb, CRYPTO 2020. Which wires leak, which events are
 //! counted and how the simulator chooses are this project's own.
 #![tactic(auto)]
 

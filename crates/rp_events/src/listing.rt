@@ -28,7 +28,7 @@ pub fn events(alloc: Global, gadget: &Gadget, rp: Rp, t: u8) -> Result<Vec<Event
         (λ error. GivesEvents rp gadget.now t (Err error)) }
     ensures outputs { IfOk result (λ events. All (AreOutputSets gadget.now) (map event_of events.items)) }
 {
-    // Its contract says what holds of each gadget.
+    // Called for its contract alone, which says what holds of every gadget.
     let _vars = gadget.vars();
     refuse(gadget, rp, t)?;
     let given = index_sets(alloc, gadget.shares(), t)?;

@@ -75,7 +75,7 @@ impl<'g> EventQuery<'g> {
           wires = wires;
         }) }
     {
-        // The reader's contract says what holds of each gadget.
+        // Called for its contract alone, which says what holds of every gadget.
         let _vars = gadget.vars();
         let list = wire_items(alloc, gadget, table, wires)?;
         let outputs = shares_in_each(alloc, gadget, &event.sets)?;

@@ -5,7 +5,7 @@ use mask_bytes::OutOfMemory;
 /// What is asked of a gadget whose wires leak at random.
 #[derive(Clone, Copy, Debug, PartialEq, Eq, Drop)]
 pub enum Rp {
-    /// Composability: some t shares of each output are simulated beside the leaking wires, whichever they are.
+    /// Composability: any t shares of each output are simulated beside the leaking wires.
     Rpc,
     /// Expandability: of each output t given shares, or all but one that the simulator chooses.
     Rpe,
@@ -20,6 +20,7 @@ pub enum RpError {
     OrderTooLarge,
     /// There would be so many events, which are more than 65,536.
     ManyEvents(u64),
+    /// Memory ran out.
     OutOfMemory,
 }
 

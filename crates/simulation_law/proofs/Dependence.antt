@@ -36,7 +36,7 @@ record IsLeast (sets : List ℕ) (k least : ℕ) : Type 0 where
 abbrev HasNone : List ℕ → ℕ → Type 0
 HasNone sets k = (set : ℕ) → Contains sets set → bit_at set k ≡ 0
 
--- what holds of the first set and of those behind it
+-- what holds of the first set and of those after it
 at_each : (P : ℕ → Type 0) (set : ℕ) (sets : List ℕ) → P set → ((a : ℕ) → Contains sets a → P a) → (a : ℕ) → Contains (set ∷ sets) a → P a
 at_each P set sets first others a among = elim (Contains-cons_cases set sets a among) [ inl e ↦ subst P e first | inr rest ↦ others a rest ]
 

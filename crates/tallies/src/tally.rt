@@ -26,12 +26,14 @@ pub enum Label {
 /// A count with its label.
 #[derive(Clone, Copy, Debug, PartialEq, Eq, Drop)]
 pub struct Cell {
+    /// Which tuples were counted.
     pub label: Label,
     /// At the greatest number of 64 bits a count stands still.
     pub count: u64,
 }
 
-/// A table of counts, to which tuples are fed.
+/// A table of counts, to which tuples are fed. Implementors say which kind it is and what it has counted so far (`kind`,
+/// `counts`).
 pub trait Tally: Drop {
     ghost use Rattle.tallies.specs.declared.tally.TallyKind.{TallyKind};
 

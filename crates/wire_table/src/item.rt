@@ -16,12 +16,13 @@ pub struct Item {
     pub name: Name,
     /// The variables that it observes, by their numbers.
     pub vars: SmallVec<u16, 4>,
+    /// Whether it is a share of an output.
     pub kind: ItemKind,
     /// How many wires it stands for.
     pub weight: u32,
 }
 
-/// Whether an item is a share of an output. The notions that compose count the others
+/// Whether an item is a share of an output. SNI and PINI count the probes that aren't
 /// (Barthe et al., CCS 2016; Cassiers and Standaert, IEEE TIFS 2020).
 #[derive(Clone, Copy, Debug, PartialEq, Eq, Drop)]
 pub enum ItemKind {

@@ -41,7 +41,7 @@ fn polynomial_of(
     }
 }
 
-// The polynomial of the next variable behind the earlier ones, or its fault.
+// The polynomial of the next variable after the earlier ones, or its fault.
 fn next_polynomial(alloc: Global, gadget: &Gadget, earlier: &[Poly]) -> Result<Poly, WireError>
     requires there { length earlier.now < length gadget.now.variables }
     requires earlier { ArePolynomials gadget.now earlier.now }

@@ -1,4 +1,4 @@
--- The words behind the header are joined by spaces.
+-- The words after the header are joined by spaces.
 use Rattle.gadget_tree.proofs.Printing.{header_done}
 use Rattle.gadget_tree.proofs.print.add_header.Goals as goal
 
