@@ -8,8 +8,8 @@ use Rattle.std.proofs.lemmas.Bool.{cases_lt, lt-ltb, le-ltb}
 use Rattle.tuple_model.specs.Tuples.{IsRising, rising, tuples}
 use Rattle.tuple_model.proofs.Rising.{IsRisingOfSize-from_member}
 use Rattle.wire_counts.specs.Coefficients.{Wire, copies, item_wires}
-use Rattle.wire_counts.specs.Ways.{ways_to_choose, mix, exact_sets, sets_with}
-use Rattle.wire_counts.proofs.Mixes.{mix-same, mix-add_right, mix-none_right, mix-times, mix-after_zeros, mix-zeros}
+use Rattle.wire_counts.specs.Ways.{ways_to_choose, convolution, exact_sets, sets_with}
+use Rattle.wire_counts.proofs.Convolutions.{convolution-same, convolution-add_right, convolution-none_right, convolution-times, convolution-after_zeros, convolution-zeros}
 use Rattle.wire_counts.proofs.Sums.{sum_by-map, sum_by-same}
 use Rattle.wire_counts.proofs.Sets.{join, join-other, over, later, outside}
 
@@ -33,20 +33,20 @@ IsRising-from (suc most) room low t h = elim (Contains-append_cases (from most r
 abbrev exactly : (ℕ → ℕ) → List ℕ → ℕ → ℕ
 exactly weight [] zero = 1
 exactly weight [] (suc i) = 0
-exactly weight (x ∷ t) i = later (mix (ways_to_choose (weight x)) (exactly weight t)) i
+exactly weight (x ∷ t) i = later (convolution (ways_to_choose (weight x)) (exactly weight t)) i
 
 abbrev weigh : (ℕ → ℕ) → (List ℕ → ℕ) → List (List ℕ) → ℕ → ℕ
 weigh weight g ts i = sum_by (λ t. g t * exactly weight t i) ts
 
 exchange : (weight : ℕ → ℕ) (g : List ℕ → ℕ) (a : ℕ → ℕ) (ts : List (List ℕ)) (i : ℕ) →
-    sum_by (λ t. g t * mix a (exactly weight t) i) ts ≡ mix a (weigh weight g ts) i
-exchange weight g a [] i = sym (mix-none_right a i)
+    sum_by (λ t. g t * convolution a (exactly weight t) i) ts ≡ convolution a (weigh weight g ts) i
+exchange weight g a [] i = sym (convolution-none_right a i)
 exchange weight g a (t ∷ ts) i =
-    let x = sum_by-cons (λ t. g t * mix a (exactly weight t) i) t ts in
+    let x = sum_by-cons (λ t. g t * convolution a (exactly weight t) i) t ts in
     let r = exchange weight g a ts i in
-    let m = mix-times a (exactly weight t) (g t) i in
-    let n = mix-add_right a (λ j. g t * exactly weight t j) (weigh weight g ts) i in
-    let o = mix-same a a (weigh weight g (t ∷ ts)) (λ j. g t * exactly weight t j + weigh weight g ts j) i (λ j l. refl)
+    let m = convolution-times a (exactly weight t) (g t) i in
+    let n = convolution-add_right a (λ j. g t * exactly weight t j) (weigh weight g ts) i in
+    let o = convolution-same a a (weigh weight g (t ∷ ts)) (λ j. g t * exactly weight t j + weigh weight g ts j) i (λ j l. refl)
     (λ j l. sum_by-cons (λ t. g t * exactly weight t j) t ts) in
     omega arith
 
@@ -59,7 +59,7 @@ weigh-append weight g s t i = sum_by-append (λ t. g t * exactly weight t i) s t
 
 step_one : (weight : ℕ → ℕ) (g : List ℕ → ℕ) (size room low i : ℕ) →
     weigh weight g (rising (suc size) (suc room) low) i
-    ≡ later (mix (ways_to_choose (weight low)) (weigh weight (λ t. g (low ∷ t)) (rising size room (suc low)))) i + weigh weight g (rising (suc size) room (suc low)) i
+    ≡ later (convolution (ways_to_choose (weight low)) (weigh weight (λ t. g (low ∷ t)) (rising size room (suc low)))) i + weigh weight g (rising (suc size) room (suc low)) i
 step_one weight g size room low zero =
     let a = sum_by-append (λ t. g t * exactly weight t 0) (map (λ (t : List ℕ). low ∷ t) (rising size room (suc low))) (rising (suc size) room (suc low)) in
     let b = sum_by-map (λ t. g t * exactly weight t 0) (λ (t : List ℕ). low ∷ t) (rising size room (suc low)) in
@@ -73,7 +73,7 @@ step_one weight g size room low (suc i) =
 
 step : (weight : ℕ → ℕ) (g : List ℕ → ℕ) (most room low i : ℕ) →
     weigh weight g (from (suc most) (suc room) low) i
-    ≡ weigh weight g (from (suc most) room (suc low)) i + later (mix (ways_to_choose (weight low)) (weigh weight (λ t. g (low ∷ t)) (from most room (suc low)))) i
+    ≡ weigh weight g (from (suc most) room (suc low)) i + later (convolution (ways_to_choose (weight low)) (weigh weight (λ t. g (low ∷ t)) (from most room (suc low)))) i
 step weight g zero room low i =
     let a = weigh-append weight g (from 0 (suc room) low) (rising 1 (suc room) low) i in
     let b = weigh-append weight g (from 0 room (suc low)) (rising 1 room (suc low)) i in
@@ -92,8 +92,8 @@ step weight g (suc most) room low (suc i) =
     let r = step weight g most room low (suc i) in
     let h : List ℕ → ℕ = λ t. g (low ∷ t) in
     let w : ℕ → ℕ = ways_to_choose (weight low) in
-    let d = mix-add_right w (weigh weight h (from most room (suc low))) (weigh weight h (rising (suc most) room (suc low))) i in
-    let e = mix-same w w (weigh weight h (from (suc most) room (suc low))) (λ j. weigh weight h (from most room (suc low)) j + weigh weight h (rising (suc most) room (suc low)) j) i
+    let d = convolution-add_right w (weigh weight h (from most room (suc low))) (weigh weight h (rising (suc most) room (suc low))) i in
+    let e = convolution-same w w (weigh weight h (from (suc most) room (suc low))) (λ j. weigh weight h (from most room (suc low)) j + weigh weight h (rising (suc most) room (suc low)) j) i
     (λ j l. refl) (λ j l. weigh-append weight h (from most room (suc low)) (rising (suc most) room (suc low)) j) in
     omega arith
 
@@ -114,7 +114,7 @@ wires_from weight room low = flat_map (λ item. copies (weight item) item) (rang
 
 first_item : (weight : ℕ → ℕ) (room low i : ℕ) (g : List ℕ → ℕ) →
     over g (wires_from weight (suc room) low) i
-    ≡ over g (wires_from weight room (suc low)) i + later (mix (ways_to_choose (weight low)) (over (λ t. g (join low t)) (wires_from weight room (suc low)))) i
+    ≡ over g (wires_from weight room (suc low)) i + later (convolution (ways_to_choose (weight low)) (over (λ t. g (join low t)) (wires_from weight room (suc low)))) i
 first_item weight room low i g =
     let e : low + 1 ≡ suc low = omega arith in
     ap (λ (n : ℕ). over g (copies (weight low) low ++ wires_from weight room n) i) e ∙ outside low (weight low) (wires_from weight room (suc low)) g i
@@ -134,7 +134,7 @@ counted_from weight (suc room) low (suc most) (suc i) g l =
     let b = step weight g most room low (suc i) in
     let r = counted_from weight room (suc low) (suc most) (suc i) g l in
     let w : ℕ → ℕ = ways_to_choose (weight low) in
-    let e = mix-same w w (over (λ t. g (join low t)) (wires_from weight room (suc low))) (weigh weight (λ t. g (low ∷ t)) (from most room (suc low))) i
+    let e = convolution-same w w (over (λ t. g (join low t)) (wires_from weight room (suc low))) (weigh weight (λ t. g (low ∷ t)) (from most room (suc low))) i
     (λ j k. refl) (λ j k. counted_from weight room (suc low) most j (λ t. g (join low t)) (omega arith)
     ∙ sum_by-same (λ t. g (join low t) * exactly weight t j) (λ t. g (low ∷ t) * exactly weight t j) (from most room (suc low))
     (λ t m. ap (λ (s : List ℕ). g s * exactly weight t j) (join-below low (suc low + room) t (IsRising-from most room (suc low) t m)))) in
@@ -144,7 +144,7 @@ counted_from weight (suc room) low (suc most) (suc i) g l =
 exactly-few : (weight : ℕ → ℕ) (t : List ℕ) (i : ℕ) → i < length t → exactly weight t i ≡ 0
 exactly-few weight [] i l = absurd (omega arith)
 exactly-few weight (x ∷ t) zero l = refl
-exactly-few weight (x ∷ t) (suc i) l = mix-zeros (ways_to_choose (weight x)) (exactly weight t) i (λ k m. exactly-few weight t k (omega arith))
+exactly-few weight (x ∷ t) (suc i) l = convolution-zeros (ways_to_choose (weight x)) (exactly weight t) i (λ k m. exactly-few weight t k (omega arith))
 
 exactly-more : (weights t : List ℕ) (more : ℕ) → exactly (slice_index weights) t (more + length t) ≡ exact_sets weights t more
 exactly-more weights [] zero = refl
@@ -154,8 +154,8 @@ exactly-more weights (x ∷ t) more =
     let b : ℕ → ℕ = exactly (slice_index weights) t in
     let e : more + suc (length t) ≡ suc (more + length t) = omega arith in
     ap (λ (n : ℕ). exactly (slice_index weights) (x ∷ t) n) e
-    ∙ mix-after_zeros w b (length t) more (λ k l. exactly-few (slice_index weights) t k l)
-    ∙ mix-same w w (λ k. b (k + length t)) (exact_sets weights t) more (λ k l. refl) (λ k l. exactly-more weights t k)
+    ∙ convolution-after_zeros w b (length t) more (λ k l. exactly-few (slice_index weights) t k l)
+    ∙ convolution-same w w (λ k. b (k + length t)) (exact_sets weights t) more (λ k l. refl) (λ k l. exactly-more weights t k)
 
 sets_with-exactly : (weights t : List ℕ) (i : ℕ) → exactly (slice_index weights) t i ≡ sets_with weights t i
 sets_with-exactly weights t i = elim (cases_lt i (length t)) [

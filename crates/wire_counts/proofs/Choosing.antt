@@ -5,7 +5,7 @@ use Rattle.std.proofs.Math.Nat.{pow-le-pow_left, pow-le-pow_right}
 use Rattle.std.proofs.lemmas.Bool.{cases_eq}
 use Rattle.std.proofs.lemmas.List.{get_or-set_same, get_or-set_other}
 use Rattle.tuple_order.proofs.Counting.{ways, ways-next, length-rising}
-use Rattle.wire_counts.specs.Ways.{AreChoices}
+use Rattle.wire_counts.specs.Ways.{AreBinomials}
 use Rattle.wire_counts.proofs.Bounds.{ways-pow}
 
 ways-one : (n : ℕ) → ways 1 n ≡ n
@@ -19,8 +19,8 @@ AreWays numbers known weight = (more : ℕ) → more < known → slice_index num
 pub weight-from_ways : (numbers : List ℕ) (known weight : ℕ) → 6 ≤ known → AreWays numbers known weight → slice_index numbers 0 ≡ weight
 weight-from_ways numbers known weight l h = h 0 (omega arith) ∙ ways-one weight
 
-pub AreChoices-from_ways : (numbers : List ℕ) (known weight : ℕ) → 6 ≤ known → AreWays numbers known weight → AreChoices numbers
-AreChoices-from_ways numbers known weight l h more m =
+pub AreBinomials-from_ways : (numbers : List ℕ) (known weight : ℕ) → 6 ≤ known → AreWays numbers known weight → AreBinomials numbers
+AreBinomials-from_ways numbers known weight l h more m =
     h more (omega arith) ∙ ap (ways (suc more)) (sym (weight-from_ways numbers known weight l h)) ∙ sym (length-rising (suc more) (slice_index numbers 0) 0)
 
 -- one number more

@@ -1,4 +1,4 @@
-pub mod Mixes
+pub mod Convolutions
 pub mod Sums
 pub mod Sets
 pub mod ByTuples

@@ -6,8 +6,8 @@ use Rattle.std.proofs.lemmas.List.Sums.{sum_by-append}
 use Rattle.std.proofs.lemmas.Bool.{cases_eq, ne_eqb}
 use Rattle.tuple_order.proofs.Counting.{ways, length-rising}
 use Rattle.wire_counts.specs.Coefficients.{Wire, sets_of_size, items_of_wires}
-use Rattle.wire_counts.specs.Ways.{ways_to_choose, mix}
-use Rattle.wire_counts.proofs.Mixes.{mix-same, mix-add_left, mix-none}
+use Rattle.wire_counts.specs.Ways.{ways_to_choose, convolution}
+use Rattle.wire_counts.proofs.Convolutions.{convolution-same, convolution-add_left, convolution-none}
 use Rattle.wire_counts.proofs.Sums.{sum_by-map, sum_by-same}
 
 -- an item before a tuple, unless it begins it
@@ -73,14 +73,14 @@ abbrev pub later : (ℕ → ℕ) → ℕ → ℕ
 later a zero = 0
 later a (suc i) = a i
 
-mix-ways_none : (b : ℕ → ℕ) (i : ℕ) → mix (λ k. ways k 0) b i ≡ b i
-mix-ways_none b zero = omega arith
-mix-ways_none b (suc i) = let r = mix-none b i in omega arith
+convolution-ways_none : (b : ℕ → ℕ) (i : ℕ) → convolution (λ k. ways k 0) b i ≡ b i
+convolution-ways_none b zero = omega arith
+convolution-ways_none b (suc i) = let r = convolution-none b i in omega arith
 
 -- the item is there already
 inside : (item start weight : ℕ) (rest : List Wire) (g : List ℕ → ℕ) (i : ℕ) → ((t : List ℕ) → g (join item t) ≡ g t) →
-    over g (copies_from item start weight ++ rest) i ≡ mix (λ k. ways k weight) (over g rest) i
-inside item start zero rest g i e = sym (mix-ways_none (over g rest) i)
+    over g (copies_from item start weight ++ rest) i ≡ convolution (λ k. ways k weight) (over g rest) i
+inside item start zero rest g i e = sym (convolution-ways_none (over g rest) i)
 inside item start (suc weight) rest g zero e = omega arith
 inside item start (suc weight) rest g (suc i) e =
     let xs = copies_from item (start + 1) weight ++ rest in
@@ -88,21 +88,21 @@ inside item start (suc weight) rest g (suc i) e =
     let s = sum_by-same (λ set. g (join item (items_of_wires set))) (λ set. g (items_of_wires set)) (sets_of_size i xs) (λ set k. e (items_of_wires set)) in
     let r = inside item (start + 1) weight rest g i e in
     let q = inside item (start + 1) weight rest g (suc i) e in
-    let m = mix-add_left (λ k. ways k weight) (λ k. ways (suc k) weight) (over g rest) i in
+    let m = convolution-add_left (λ k. ways k weight) (λ k. ways (suc k) weight) (over g rest) i in
     omega arith
 
 -- the item comes, or it doesn't
 outside_by_ways : (item start weight : ℕ) (rest : List Wire) (g : List ℕ → ℕ) (i : ℕ) →
-    over g (copies_from item start weight ++ rest) i ≡ over g rest i + later (mix (λ k. ways (suc k) weight) (over (λ t. g (join item t)) rest)) i
+    over g (copies_from item start weight ++ rest) i ≡ over g rest i + later (convolution (λ k. ways (suc k) weight) (over (λ t. g (join item t)) rest)) i
 outside_by_ways item start zero rest g zero = omega arith
-outside_by_ways item start zero rest g (suc i) = let m = mix-none (over (λ t. g (join item t)) rest) i in omega arith
+outside_by_ways item start zero rest g (suc i) = let m = convolution-none (over (λ t. g (join item t)) rest) i in omega arith
 outside_by_ways item start (suc weight) rest g zero = omega arith
 outside_by_ways item start (suc weight) rest g (suc i) =
     let xs = copies_from item (start + 1) weight ++ rest in
     let a = over-cons g (record { item = item; copy = start }) xs i in
     let s = inside item (start + 1) weight rest (λ t. g (join item t)) i (λ t. ap g (join-twice item t)) in
     let q = outside_by_ways item (start + 1) weight rest g (suc i) in
-    let m = mix-add_left (λ k. ways k weight) (λ k. ways (suc k) weight) (over (λ t. g (join item t)) rest) i in
+    let m = convolution-add_left (λ k. ways k weight) (λ k. ways (suc k) weight) (over (λ t. g (join item t)) rest) i in
     omega arith
 
 later-same : (a b : ℕ → ℕ) (i : ℕ) → ((j : ℕ) → a j ≡ b j) → later a i ≡ later b i
@@ -110,10 +110,10 @@ later-same a b zero e = refl
 later-same a b (suc i) e = e i
 
 pub outside : (item weight : ℕ) (rest : List Wire) (g : List ℕ → ℕ) (i : ℕ) →
-    over g (copies_from item 0 weight ++ rest) i ≡ over g rest i + later (mix (ways_to_choose weight) (over (λ t. g (join item t)) rest)) i
+    over g (copies_from item 0 weight ++ rest) i ≡ over g rest i + later (convolution (ways_to_choose weight) (over (λ t. g (join item t)) rest)) i
 outside item weight rest g i =
     outside_by_ways item 0 weight rest g i
-    ∙ ap (λ (n : ℕ). over g rest i + n) (later-same (mix (λ k. ways (suc k) weight) (over (λ t. g (join item t)) rest))
-    (mix (ways_to_choose weight) (over (λ t. g (join item t)) rest)) i
-    (λ j. mix-same (λ k. ways (suc k) weight) (ways_to_choose weight) (over (λ t. g (join item t)) rest) (over (λ t. g (join item t)) rest) j
+    ∙ ap (λ (n : ℕ). over g rest i + n) (later-same (convolution (λ k. ways (suc k) weight) (over (λ t. g (join item t)) rest))
+    (convolution (ways_to_choose weight) (over (λ t. g (join item t)) rest)) i
+    (λ j. convolution-same (λ k. ways (suc k) weight) (ways_to_choose weight) (over (λ t. g (join item t)) rest) (over (λ t. g (join item t)) rest) j
     (λ k l. sym (length-rising (suc k) weight 0)) (λ k l. refl)))

@@ -8,8 +8,8 @@ use Rattle.std.proofs.Math.ListN.{length-map, get_or-map}
 use Rattle.std.proofs.lemmas.Grind.{get_or_default_zero}
 use Rattle.tuple_model.specs.Tuples.{IsRising, IsTuple}
 use Rattle.tuple_model.proofs.Rising.{IsRising-from_higher}
-use Rattle.wire_counts.specs.Ways.{ways_to_choose, mix, exact_sets, sets_with, AddsSets}
-use Rattle.wire_counts.proofs.Mixes.{mix-same}
+use Rattle.wire_counts.specs.Ways.{ways_to_choose, convolution, exact_sets, sets_with, AddsSets}
+use Rattle.wire_counts.proofs.Convolutions.{convolution-same}
 use Rattle.wire_counts.proofs.Bounds.{sets_with-bounded}
 
 -- one element more is pushed
@@ -22,25 +22,25 @@ pushed-next f g xs done all i d l h =
 -- a row into which one more item is taken, from the highest place down
 module _ (weight room : ℕ) (old now : List ℕ) where
   abbrev pub IsTakenIn : ℕ → Type 0
-  IsTakenIn from = (k : ℕ) → from ≤ k → k ≤ room → slice_index now k ≡ mix (ways_to_choose weight) (slice_index old) k
+  IsTakenIn from = (k : ℕ) → from ≤ k → k ≤ room → slice_index now k ≡ convolution (ways_to_choose weight) (slice_index old) k
 
   abbrev pub IsAsBefore : ℕ → Type 0
   IsAsBefore to = (k : ℕ) → k < to → slice_index now k ≡ slice_index old k
 
-pub mix-as_before : (weight room : ℕ) (old now : List ℕ) (place to : ℕ) → place < to → IsAsBefore weight room old now to →
-    mix (ways_to_choose weight) (slice_index now) place ≡ mix (ways_to_choose weight) (slice_index old) place
-mix-as_before weight room old now place to l h =
-    mix-same (ways_to_choose weight) (ways_to_choose weight) (slice_index now) (slice_index old) place (λ k m. refl) (λ k m. h k (omega arith))
+pub convolution-as_before : (weight room : ℕ) (old now : List ℕ) (place to : ℕ) → place < to → IsAsBefore weight room old now to →
+    convolution (ways_to_choose weight) (slice_index now) place ≡ convolution (ways_to_choose weight) (slice_index old) place
+convolution-as_before weight room old now place to l h =
+    convolution-same (ways_to_choose weight) (ways_to_choose weight) (slice_index now) (slice_index old) place (λ k m. refl) (λ k m. h k (omega arith))
 
 pub IsTakenIn-next : (weight room : ℕ) (old now : List ℕ) (place to number : ℕ) → suc place ≡ to → place < length now →
-    number ≡ mix (ways_to_choose weight) (slice_index now) place → IsAsBefore weight room old now to → IsTakenIn weight room old now to →
+    number ≡ convolution (ways_to_choose weight) (slice_index now) place → IsAsBefore weight room old now to → IsTakenIn weight room old now to →
     IsAsBefore weight room old (set now place number) place × IsTakenIn weight room old (set now place number) place
 IsTakenIn-next weight room old now place to number e l is before taken = (
   (λ k m. get_or-set_other now place k number 0 (λ f. omega arith) ∙ before k (omega arith)),
   (λ k m r. elim (cases_eq k place) [
     | inl same ↦
         ap (λ (n : ℕ). get_or (set now place number) n 0) same ∙ get_or-set_same now place number 0 l ∙ is
-        ∙ mix-as_before weight room old now place to (omega arith) before ∙ ap (mix (ways_to_choose weight) (slice_index old)) (sym same)
+        ∙ convolution-as_before weight room old now place to (omega arith) before ∙ ap (convolution (ways_to_choose weight) (slice_index old)) (sym same)
     | inr other ↦ get_or-set_other now place k number 0 other ∙ taken k (let n : place < k = omega arith in omega arith) r
   ]),
 )
@@ -64,9 +64,9 @@ AreSets-none weights t row room place l one zeros =
       at (suc more) = zeros (suc more) (omega arith)
 
 pub exact_sets-next : (weights t row : List ℕ) (room place : ℕ) → place < length t → AreSets weights (drop (place + 1) t) room row → (more : ℕ) → more ≤ room →
-    mix (ways_to_choose (slice_index weights (slice_index t place))) (slice_index row) more ≡ exact_sets weights (drop place t) more
+    convolution (ways_to_choose (slice_index weights (slice_index t place))) (slice_index row) more ≡ exact_sets weights (drop place t) more
 exact_sets-next weights t row room place l h more m =
-    mix-same (ways_to_choose (slice_index weights (slice_index t place))) (ways_to_choose (slice_index weights (slice_index t place)))
+    convolution-same (ways_to_choose (slice_index weights (slice_index t place))) (ways_to_choose (slice_index weights (slice_index t place)))
     (slice_index row) (exact_sets weights (drop (place + 1) t)) more (λ k n. refl) (λ k n. h k (omega arith))
     ∙ ap (λ (u : List ℕ). exact_sets weights u more) (sym (drop_more t place 0 l))
 
@@ -157,7 +157,7 @@ IsRising-at low high (suc place) (x ∷ t) h l = IsRising-at (suc x) high place 
 -- what the row becomes with the item at the place before, which is found in a copy of the tuple
 pub exact_sets-item : (weights t items row : List ℕ) (room to item weight : ℕ) → IsTuple (length weights) 6 t → items ≡ t → 0 < to → to ≤ length items →
     item ≡ slice_index items (to - 1) → weight ≡ get_or weights item weight → AreSets weights (drop to t) room row → (more : ℕ) → more ≤ room →
-    mix (ways_to_choose weight) (slice_index row) more ≡ exact_sets weights (drop (to - 1) t) more
+    convolution (ways_to_choose weight) (slice_index row) more ≡ exact_sets weights (drop (to - 1) t) more
 exact_sets-item weights t items row room to item weight is same some within at found h more l =
     let n = ap length same in
     let e : to ≡ to - 1 + 1 = omega arith in
@@ -165,5 +165,5 @@ exact_sets-item weights t items row room to item weight is same some within at f
     let b = IsRising-at 0 (length weights) (to - 1) t is.rising (omega arith) in
     let w : weight ≡ slice_index weights (slice_index t (to - 1)) =
     found ∙ get_or_default_zero weights item weight (omega arith) ∙ ap (slice_index weights) k in
-    ap (λ (n : ℕ). mix (ways_to_choose n) (slice_index row) more) w
+    ap (λ (n : ℕ). convolution (ways_to_choose n) (slice_index row) more) w
     ∙ exact_sets-next weights t row room (to - 1) (omega arith) (subst (λ (n : ℕ). AreSets weights (drop n t) room row) e h) more l

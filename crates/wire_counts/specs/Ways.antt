@@ -1,5 +1,6 @@
 -- How many sets of wires have exactly the items of a tuple, as the code counts them.
-use Rattle.std.specs.Prelude.{◌≡◌, ℕ, zero, suc, ◌+◌, ◌-◌, ◌*◌, ◌%◌, ◌^◌, ◌<◌, ◌≤◌, All, List, [], ◌∷◌, length, take, drop, slice_index, if◌then◌else◌, nat_lt}
+use Rattle.std.specs.Prelude.{◌≡◌, ℕ, zero, suc, ◌+◌, ◌-◌, ◌*◌, ◌%◌, ◌^◌, ◌<◌, ◌≤◌, All, List, [], ◌∷◌, length, take}
+use Rattle.std.specs.Prelude.{drop, slice_index, if◌then◌else◌, nat_lt}
 use Rattle.std.specs.List.{sum_by}
 use Rattle.tuple_model.specs.Limits.{most_items, most_size}
 use Rattle.tuple_model.specs.Tuples.{rising, tuples}
@@ -10,20 +11,21 @@ use Rattle.wire_counts.specs.Limits.{most_weight}
 abbrev pub ways_to_choose : ℕ → ℕ → ℕ
 ways_to_choose weight more = length (rising (suc more) weight 0)
 
--- the numbers tell in how many ways wires of an item are chosen, and the first one is its weight
-abbrev pub AreChoices : List ℕ → Type 0
-AreChoices numbers = (more : ℕ) → more < most_size → slice_index numbers more ≡ ways_to_choose (slice_index numbers 0) more
+-- the numbers are the binomial coefficients of the first one, which is the weight of an item
+abbrev pub AreBinomials : List ℕ → Type 0
+AreBinomials numbers = (more : ℕ) → more < most_size →
+    slice_index numbers more ≡ ways_to_choose (slice_index numbers 0) more
 
--- a(0) b(n) + a(1) b(n - 1) + .. + a(n) b(0)
-abbrev pub mix : (ℕ → ℕ) → (ℕ → ℕ) → ℕ → ℕ
-mix a b zero = a 0 * b 0
-mix a b (suc n) = a 0 * b (suc n) + mix (λ k. a (suc k)) b n
+-- the convolution of two sequences: a(0) b(n) + a(1) b(n - 1) + .. + a(n) b(0)
+abbrev pub convolution : (ℕ → ℕ) → (ℕ → ℕ) → ℕ → ℕ
+convolution a b zero = a 0 * b 0
+convolution a b (suc n) = a 0 * b (suc n) + convolution (λ k. a (suc k)) b n
 
 -- how many sets of wires have exactly the tuple's items, of so many more wires than it has items
 abbrev pub exact_sets : List ℕ → List ℕ → ℕ → ℕ
 exact_sets weights [] zero = 1
 exact_sets weights [] (suc more) = 0
-exact_sets weights (item ∷ t) more = mix (ways_to_choose (slice_index weights item)) (exact_sets weights t) more
+exact_sets weights (item ∷ t) more = convolution (ways_to_choose (slice_index weights item)) (exact_sets weights t) more
 
 -- how many sets of i wires have exactly the tuple's items
 abbrev pub sets_with : List ℕ → List ℕ → ℕ → ℕ

@@ -9,7 +9,7 @@ ghost use Rattle.wire_counts.specs.Coefficients.{AreCoefficients, IsCoefficient,
 ghost use Rattle.wire_counts.specs.Limits.{most_weight};
 ghost use Rattle.wire_counts.specs.Ways.{AddsSets, AreAdded, AreCounted, IsWithinLimits, sets_with};
 
-use crate::choices::{Choices, choices_of};
+use crate::binomials::{Binomials, binomials_of};
 use crate::exact_sets::exact_sets;
 use antichain_list::Antichain;
 use mask_bytes::OutOfMemory;
@@ -40,8 +40,8 @@ pub fn coefficients<R: Threads + Sync>(
     ensures { IfOk result
         (λ numbers. AreCoefficients (Covers list.now) (weights_of (map item_of items.now)) size numbers.items) }
 {
-    let choices = choices_of(alloc, items)?;
-    let numbers = count_sets(rt, &choices, list, size, BLOCK);
+    let binomials = binomials_of(alloc, items)?;
+    let numbers = count_sets(rt, &binomials, list, size, BLOCK);
     Ok(numbers[..usize::from(size) + 1].to_vec(alloc)?)
 }
 
@@ -49,27 +49,27 @@ pub fn coefficients<R: Threads + Sync>(
 // one block alone by the caller.
 fn count_sets<R: Threads + Sync>(
     rt: &R,
-    choices: &[Choices],
+    binomials: &[Binomials],
     list: &Antichain,
     size: u8,
     block: u64,
 ) -> Numbers
-    requires limits { IsWithinLimits choices.now size }
+    requires limits { IsWithinLimits binomials.now size }
     requires block { 0 < block }
-    ensures { (i : ℕ) → i ≤ size → IsCoefficient (Covers list.now) choices.now i (slice_index result i) }
+    ensures { (i : ℕ) → i ≤ size → IsCoefficient (Covers list.now) binomials.now i (slice_index result i) }
 {
-    let ranks = count(choices.len() as u16, size);
+    let ranks = count(binomials.len() as u16, size);
     let blocks = ranks.div_ceil(block);
     (0..blocks)
         .into_par_iter()
         .with_min_len(1)
         .map(
             |number: u64| -> Numbers
-                requires { IsWithinLimits choices.now size × (0 < block) × (number * block < ranks)
-                    × (ranks ≡ length (tuples (length choices.now) size)) }
-                ensures { AreCounted (Covers list.entry.now) choices.entry.now size (number * block)
+                requires { IsWithinLimits binomials.now size × (0 < block) × (number * block < ranks)
+                    × (ranks ≡ length (tuples (length binomials.now) size)) }
+                ensures { AreCounted (Covers list.entry.now) binomials.entry.now size (number * block)
                     (number * block + min block (ranks - number * block)) result }
-            { count_range(choices, list, size, block_at(number, block, ranks)) },
+            { count_range(binomials, list, size, block_at(number, block, ranks)) },
         )
         .reduce(
             rt,
@@ -96,18 +96,18 @@ fn block_at(number: u64, block: u64, ranks: u64) -> Range
 }
 
 // The sets of wires whose items the list covers, for tuples with these ranks.
-fn count_range(choices: &[Choices], list: &Antichain, size: u8, range: Range) -> Numbers
-    requires limits { IsWithinLimits choices.now size }
+fn count_range(binomials: &[Binomials], list: &Antichain, size: u8, range: Range) -> Numbers
+    requires limits { IsWithinLimits binomials.now size }
     requires some { range.from < range.to }
-    requires ranks { range.to ≤ length (tuples (length choices.now) size) }
-    ensures { AreCounted (Covers list.now) choices.now size range.from range.to result }
+    requires ranks { range.to ≤ length (tuples (length binomials.now) size) }
+    ensures { AreCounted (Covers list.now) binomials.now size range.from range.to result }
 {
-    let items = choices.len() as u16;
+    let items = binomials.len() as u16;
     let mut numbers = [0; 7];
     let mut t = unrank(items, size, range.from);
     for _rank in range.from..range.to {
         if list.covers(&t).is_some() {
-            add_sets(choices, &t, size, &mut numbers);
+            add_sets(binomials, &t, size, &mut numbers);
         }
         let _more = next(items, size, &mut t);
     }
@@ -126,15 +126,15 @@ fn added(left: Numbers, right: Numbers) -> Numbers
 }
 
 // Adds the sets of up to `size` wires with exactly the tuple's items to the numbers of sets of their sizes.
-fn add_sets(choices: &[Choices], t: &Tuple, size: u8, numbers: &mut Numbers)
-    requires limits { IsWithinLimits choices.now size }
-    requires tuple { IsTuple (length choices.now) most_size t.now }
+fn add_sets(binomials: &[Binomials], t: &Tuple, size: u8, numbers: &mut Numbers)
+    requires limits { IsWithinLimits binomials.now size }
+    requires tuple { IsTuple (length binomials.now) most_size t.now }
     requires short { length t.now ≤ size }
-    requires fits { (i : ℕ) → i ≤ size → slice_index numbers.old i + sets_with choices.now t.now i < 2 ^ 128 }
-    ensures { AddsSets choices.now size t.now numbers.old numbers.new }
+    requires fits { (i : ℕ) → i ≤ size → slice_index numbers.old i + sets_with binomials.now t.now i < 2 ^ 128 }
+    ensures { AddsSets binomials.now size t.now numbers.old numbers.new }
 {
     let smallest = t.items().len();
-    let sets = exact_sets(choices, t, usize::from(size) - smallest);
+    let sets = exact_sets(binomials, t, usize::from(size) - smallest);
     for place in smallest..usize::from(size) + 1 {
         numbers[place] += sets[place - smallest];
     }

@@ -1,7 +1,7 @@
 //! How many sets of wires fail, of each size.
 #![tactic(auto)]
 
-mod choices;
+mod binomials;
 mod counting;
 mod exact_sets;
 mod laws;

@@ -6,14 +6,14 @@ use Rattle.wire_counts.proofs.counting.count_range.Goals as goal
 pub add_sets-requires-clause-fits : goal.add_sets-requires-clause-fits
 add_sets-requires-clause-fits c =
     let here = c.loop-rank.invariant.here (let m = c.requires.ranks in omega arith) in
-    counted-fits c.args.list.now c.args.choices.now c.args.size c.args.range.from c.loop-rank._rank c.loop-rank.t c.loop-rank.numbers c.requires.limits
+    counted-fits c.args.list.now c.args.binomials.now c.args.size c.args.range.from c.loop-rank._rank c.loop-rank.t c.loop-rank.numbers c.requires.limits
     here (Covers-found c.args.list.now c.loop-rank.t c.covers.result c.is_some.result c.covers.ensures.first c.is_some.ensures c.if-is_some.true)
     c.loop-rank.invariant.counted
 
 pub loop-rank-preserved : goal.loop-rank-preserved
 loop-rank-preserved c =
     let list = c.args.list.now in
-    let weights = c.args.choices.now in
+    let weights = c.args.binomials.now in
     let size = c.args.size in
     let from = c.args.range.from in
     let rank = c.loop-rank._rank in
@@ -37,7 +37,7 @@ loop-rank-preserved c =
 pub returns : goal.returns
 returns c =
     let list = c.args.list.now in
-    let weights = c.args.choices.now in
+    let weights = c.args.binomials.now in
     let from = c.args.range.from in
     let some = c.requires.some in
     let ended = c.loop-rank.auto._rank-end in

@@ -5,7 +5,7 @@ use Rattle.wire_counts.proofs.counting.count_range.Given as goal
 
 abbrev pub invariant-loop-rank : goal.invariant-loop-rank
 invariant-loop-rank l = record {
-  here : IsAt (length l.choices) l.size l._rank l.t;
-  tuple : IsTuple (length l.choices) l.size l.t;
-  counted : CountsFrom l.list l.choices l.size l.fn.range.from l._rank l.numbers;
+  here : IsAt (length l.binomials) l.size l._rank l.t;
+  tuple : IsTuple (length l.binomials) l.size l.t;
+  counted : CountsFrom l.list l.binomials l.size l.fn.range.from l._rank l.numbers;
 }

@@ -10,7 +10,7 @@ use Rattle.wire_counts.proofs.counting.count_sets.Goals as goal
 pub reduce-requires-clause-ready : goal.reduce-requires-clause-ready
 reduce-requires-clause-ready g c κs within =
     let ends = c.into_par_iter.ensures in
-    let weights = c.args.choices.now in
+    let weights = c.args.binomials.now in
     let size = c.args.size in
     let ranks = c.count-ranks.result in
     let block = c.args.block in
@@ -28,5 +28,5 @@ returns g c =
     let chain = rw (c.map.ensures.base, c.map.ensures.f) at done.1 in
     let places = chain.1 ∙ ap (λ it. nat_range it.start it.end) c.with_min_len.ensures.base ∙ (λ i. nat_range (ends.0 i) (ends.1 i)) ∙ ap (range_with_len 0) whole
     ∙ ap (range_with_len 0) c.div_ceil-blocks.ensures in
-    IsCoefficient-blocks c.args.list.now c.args.choices.now c.args.size c.args.block c.count-ranks.result _ _ (λ row z. z) (λ xs ys sums a. a)
+    IsCoefficient-blocks c.args.list.now c.args.binomials.now c.args.size c.args.block c.count-ranks.result _ _ (λ row z. z) (λ xs ys sums a. a)
     chain.0 done.0 c.reduce.result c.requires.limits c.requires.block c.count-ranks.ensures places chain.2 done.2

@@ -3,6 +3,6 @@ use Rattle.wire_counts.proofs.exact_sets.with_item.Given as goal
 
 abbrev pub invariant-loop-more : goal.invariant-loop-more
 invariant-loop-more l = record {
-  lower : IsAsBefore l.choices l.room l.initial.sets l.sets l.more;
-  higher : IsTakenIn l.choices l.room l.initial.sets l.sets l.more;
+  lower : IsAsBefore l.binomials l.room l.initial.sets l.sets l.more;
+  higher : IsTakenIn l.binomials l.room l.initial.sets l.sets l.more;
 }

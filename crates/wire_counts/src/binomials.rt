@@ -1,4 +1,4 @@
-//! In how many ways wires of an item are chosen.
+//! The binomial coefficients of an item's weight.
 
 ghost use Rattle.std.specs.Prelude.{◌≡◌, ◌<◌, ◌≤◌, All, IfOk, map};
 ghost use Rattle.tuple_model.specs.Limits.{most_size};
@@ -12,27 +12,28 @@ use std::alloc::Global;
 use std::marker::Model;
 use wire_table::Item;
 
-/// In how many ways wires of an item are chosen. Contracts see the item's weight.
+/// The binomial coefficients of an item's weight: in how many ways so many of its wires are chosen. Contracts see the
+/// weight.
 #[derive(Drop)]
-pub struct Choices {
+pub struct Binomials {
     // At place k, in how many ways k + 1 wires are chosen.
     numbers: [u128; 6],
 }
 
-impl Model for Choices {
+impl Model for Binomials {
     ghost use Rattle.std.specs.Prelude.{ℕ, slice_index};
-    ghost use Rattle.wire_counts.specs.Ways.{AreChoices};
+    ghost use Rattle.wire_counts.specs.Ways.{AreBinomials};
 
     ghost Value = { ℕ };
 
     ghost view = { λ c. slice_index c.numbers 0 };
 
-    ghost invariant = { λ c. AreChoices c.numbers };
+    ghost invariant = { λ c. AreBinomials c.numbers };
 }
 
-impl Choices {
+impl Binomials {
     /// Those of an item with this weight.
-    pub fn make(weight: u32) -> Choices
+    pub fn make(weight: u32) -> Binomials
         requires { weight ≤ most_weight }
         ensures { result ≡ weight }
     {
@@ -45,7 +46,7 @@ impl Choices {
             of_size = of_size * lacking / (place as u128 + 1);
             numbers[place] = of_size;
         }
-        Choices { numbers }
+        Binomials { numbers }
     }
 
     /// In how many ways one more than `more` wires are chosen.
@@ -57,14 +58,14 @@ impl Choices {
     }
 }
 
-/// The choices of each item.
-pub fn choices_of(alloc: Global, items: &[Item]) -> Result<Vec<Choices>, OutOfMemory>
+/// The binomial coefficients of the weight of each item.
+pub fn binomials_of(alloc: Global, items: &[Item]) -> Result<Vec<Binomials>, OutOfMemory>
     requires { All (λ weight. weight ≤ most_weight) (weights_of (map item_of items.now)) }
-    ensures { IfOk result (λ choices. choices.items ≡ weights_of (map item_of items.now)) }
+    ensures { IfOk result (λ binomials. binomials.items ≡ weights_of (map item_of items.now)) }
 {
-    let mut choices = Vec::with_capacity(alloc, items.len())?;
+    let mut binomials = Vec::with_capacity(alloc, items.len())?;
     for item in items {
-        choices.push(Choices::make(item.weight))?;
+        binomials.push(Binomials::make(item.weight))?;
     }
-    Ok(choices)
+    Ok(binomials)
 }

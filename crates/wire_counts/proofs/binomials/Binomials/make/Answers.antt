@@ -1,7 +1,7 @@
 use Rattle.std.proofs.Common.{◌+◌, ◌*◌, ◌/◌, ◌∙◌, refl, arith}
 use Rattle.std.proofs.lemmas.List.{length-set}
-use Rattle.wire_counts.proofs.Choosing.{AreWays-next, AreChoices-from_ways, weight-from_ways, ways-product, ways-divided}
-use Rattle.wire_counts.proofs.choices.Choices.make.Goals as goal
+use Rattle.wire_counts.proofs.Choosing.{AreWays-next, AreBinomials-from_ways, weight-from_ways, ways-product, ways-divided}
+use Rattle.wire_counts.proofs.binomials.Binomials.make.Goals as goal
 
 pub overflow_mul-of_size : goal.overflow_mul-of_size
 overflow_mul-of_size c =
@@ -21,7 +21,7 @@ loop-place-preserved c =
     }
 
 pub invariant_of-result : goal.invariant_of-result
-invariant_of-result c = AreChoices-from_ways c.loop-place.numbers c.loop-place.place c.args.weight (omega arith) c.loop-place.invariant.known
+invariant_of-result c = AreBinomials-from_ways c.loop-place.numbers c.loop-place.place c.args.weight (omega arith) c.loop-place.invariant.known
 
 pub returns : goal.returns
 returns c = weight-from_ways c.loop-place.numbers c.loop-place.place c.args.weight (omega arith) c.loop-place.invariant.known

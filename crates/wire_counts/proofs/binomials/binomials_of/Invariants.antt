@@ -1,7 +1,7 @@
 use Rattle.std.proofs.Common.{◌≡◌, ◌++◌, drop, map}
 use Rattle.wire_table.specs.Items.{item_of}
 use Rattle.wire_counts.specs.Coefficients.{weights_of}
-use Rattle.wire_counts.proofs.choices.choices_of.Given as goal
+use Rattle.wire_counts.proofs.binomials.binomials_of.Given as goal
 
 abbrev pub invariant-loop-item : goal.invariant-loop-item
-invariant-loop-item l = l.choices.items ++ weights_of (map item_of (drop l.item-index l.items)) ≡ weights_of (map item_of l.items)
+invariant-loop-item l = l.binomials.items ++ weights_of (map item_of (drop l.item-index l.items)) ≡ weights_of (map item_of l.items)

@@ -1,7 +1,7 @@
 use Rattle.std.proofs.Common.{◌≡◌, length}
 use Rattle.tuple_order.proofs.Counting.{ways}
 use Rattle.wire_counts.proofs.Choosing.{AreWays}
-use Rattle.wire_counts.proofs.choices.Choices.make.Given as goal
+use Rattle.wire_counts.proofs.binomials.Binomials.make.Given as goal
 
 abbrev pub invariant-loop-place : goal.invariant-loop-place
 invariant-loop-place l = record {

@@ -2,7 +2,7 @@ use Rattle.std.proofs.Common.{sym}
 use Rattle.wire_table.specs.Items.{Item, item_of}
 use Rattle.wire_counts.specs.Limits.{most_weight}
 use Rattle.wire_counts.proofs.Walks.{weight-at}
-use Rattle.wire_counts.proofs.choices.choices_of.Goals as goal
+use Rattle.wire_counts.proofs.binomials.binomials_of.Goals as goal
 
 pub make-requires : goal.make-requires
 make-requires c =
