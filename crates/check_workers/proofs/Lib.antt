@@ -1,2 +1,2 @@
 pub mod Passed
-pub mod Shared
+pub mod Blocks

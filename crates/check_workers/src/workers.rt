@@ -38,20 +38,20 @@ pub fn minimal<R: Threads + Sync, Q: Query, G: Gate>(
         (IsAnswer (Q.Question.Fails query.now) (Q.Question.items query.now) (Q.Question.size query.now)) }
 {
     let ranks = count(query.items(), query.size());
-    let blocks = ranks.div_ceil(block);
-    let working = u64::from(workers).min(blocks) as u16;
-    let shares = Shares {
+    let block_count = ranks.div_ceil(block);
+    let working = u64::from(workers).min(block_count) as u16;
+    let blocks = Blocks {
         ranks,
         block,
         workers: working,
     };
-    merged(rt, alloc, query, shares, gate, 0, working)
+    merged(rt, alloc, query, blocks, gate, 0, working)
 }
 
-// How the ranks are shared out: in blocks of equally many, of which each worker takes every `workers`th, from the one
-// with its own number on.
+// How the ranks are cut: into blocks of equally many, of which each worker takes every `workers`th, from the one with
+// its own number on.
 #[derive(Clone, Copy, Drop)]
-struct Shares {
+struct Blocks {
     ranks: u64,
     block: u64,
     workers: u16,
@@ -66,36 +66,36 @@ fn merged<R: Threads + Sync, Q: Query, G: Gate>(
     rt: &R,
     alloc: Global,
     query: &Q,
-    shares: Shares,
+    blocks: Blocks,
     gate: &G,
     first: u16,
     end: u16,
 ) -> Result<Antichain, OutOfMemory>
     requires some { first < end }
-    requires workers { end ≤ shares.workers }
-    requires ranks { shares.ranks ≡ length (tuples (Q.Question.items query.now) (Q.Question.size query.now)) }
+    requires workers { end ≤ blocks.workers }
+    requires ranks { blocks.ranks ≡ length (tuples (Q.Question.items query.now) (Q.Question.size query.now)) }
     ensures covers { IfOk result (CoversRanked (Q.Question.Fails query.now) (Q.Question.items query.now)
-        (Q.Question.size query.now) (IsTaken shares.workers shares.block first end)) }
+        (Q.Question.size query.now) (IsTaken blocks.workers blocks.block first end)) }
     ensures antichain { IfOk result IsAntichain }
 {
     if end - first == 1 {
-        return found(alloc, query, shares, gate, first);
+        return found(alloc, query, blocks, gate, first);
     }
     let middle = first + (end - first) / 2;
     let (low, high) = join(
         rt,
         || -> Result<Antichain, OutOfMemory>
-            requires { IsSync R.row × IsSync Q.row × IsSync G.row × (first < middle) × (middle ≤ shares.workers)
-                × (shares.ranks ≡ length (tuples (Q.Question.items query.now) (Q.Question.size query.now))) }
+            requires { IsSync R.row × IsSync Q.row × IsSync G.row × (first < middle) × (middle ≤ blocks.workers)
+                × (blocks.ranks ≡ length (tuples (Q.Question.items query.now) (Q.Question.size query.now))) }
             ensures { IfOk result (CoversRanked (Q.Question.Fails query.entry.now) (Q.Question.items query.entry.now)
-                (Q.Question.size query.entry.now) (IsTaken shares.workers shares.block first middle)) }
-        { merged(rt, alloc, query, shares, gate, first, middle) },
+                (Q.Question.size query.entry.now) (IsTaken blocks.workers blocks.block first middle)) }
+        { merged(rt, alloc, query, blocks, gate, first, middle) },
         || -> Result<Antichain, OutOfMemory>
-            requires { IsSync R.row × IsSync Q.row × IsSync G.row × (middle < end) × (end ≤ shares.workers)
-                × (shares.ranks ≡ length (tuples (Q.Question.items query.now) (Q.Question.size query.now))) }
+            requires { IsSync R.row × IsSync Q.row × IsSync G.row × (middle < end) × (end ≤ blocks.workers)
+                × (blocks.ranks ≡ length (tuples (Q.Question.items query.now) (Q.Question.size query.now))) }
             ensures { IfOk result (CoversRanked (Q.Question.Fails query.entry.now) (Q.Question.items query.entry.now)
-                (Q.Question.size query.entry.now) (IsTaken shares.workers shares.block middle end)) }
-        { merged(rt, alloc, query, shares, gate, middle, end) },
+                (Q.Question.size query.entry.now) (IsTaken blocks.workers blocks.block middle end)) }
+        { merged(rt, alloc, query, blocks, gate, middle, end) },
     );
     let mut list = low?;
     list.merge(&high?)?;
@@ -106,24 +106,24 @@ fn merged<R: Threads + Sync, Q: Query, G: Gate>(
 fn found<Q: Query, G: Gate>(
     alloc: Global,
     query: &Q,
-    shares: Shares,
+    blocks: Blocks,
     gate: &G,
     worker: u16,
 ) -> Result<Antichain, OutOfMemory>
-    requires worker { worker < shares.workers }
-    requires ranks { shares.ranks ≡ length (tuples (Q.Question.items query.now) (Q.Question.size query.now)) }
+    requires worker { worker < blocks.workers }
+    requires ranks { blocks.ranks ≡ length (tuples (Q.Question.items query.now) (Q.Question.size query.now)) }
     ensures covers { IfOk result (CoversRanked (Q.Question.Fails query.now) (Q.Question.items query.now)
-        (Q.Question.size query.now) (IsTaken shares.workers shares.block worker (worker + 1))) }
+        (Q.Question.size query.now) (IsTaken blocks.workers blocks.block worker (worker + 1))) }
     ensures antichain { IfOk result IsAntichain }
 {
-    found_counted::<Q, G, Brand>(alloc, query, shares, gate, worker, Blank::new(1))
+    found_counted::<Q, G, Brand>(alloc, query, blocks, gate, worker, Blank::new(1))
 }
 
 // The scratch, the list and the counter are made in the worker's own thread, and no other thread writes beside them.
 fn found_counted<Q: Query, G: Gate, L: Ledger>(
     alloc: Global,
     query: &Q,
-    shares: Shares,
+    blocks: Blocks,
     gate: &G,
     worker: u16,
     blank: Blank,
@@ -131,19 +131,19 @@ fn found_counted<Q: Query, G: Gate, L: Ledger>(
     requires name { blank.name ≡ L.name }
     requires parts { blank.parts ≡ L.parts }
     requires one { blank.parts ≡ 1 }
-    requires worker { worker < shares.workers }
-    requires ranks { shares.ranks ≡ length (tuples (Q.Question.items query.now) (Q.Question.size query.now)) }
+    requires worker { worker < blocks.workers }
+    requires ranks { blocks.ranks ≡ length (tuples (Q.Question.items query.now) (Q.Question.size query.now)) }
     ensures covers { IfOk result (CoversRanked (Q.Question.Fails query.now) (Q.Question.items query.now)
-        (Q.Question.size query.now) (IsTaken shares.workers shares.block worker (worker + 1))) }
+        (Q.Question.size query.now) (IsTaken blocks.workers blocks.block worker (worker + 1))) }
     ensures antichain { IfOk result IsAntichain }
 {
     let (book, share) = blank.open::<L>();
     let mut steps = Steps::make(book, share);
     let mut scratch = query.scratch(alloc)?;
     let mut list = Antichain::new(alloc);
-    let blocks = shares.ranks.div_ceil(shares.block);
-    for number in (u64::from(worker)..blocks).step_by(usize::from(shares.workers)) {
-        let range = range_of(shares, number);
+    let block_count = blocks.ranks.div_ceil(blocks.block);
+    for number in (u64::from(worker)..block_count).step_by(usize::from(blocks.workers)) {
+        let range = range_of(blocks, number);
         gate.at_block(worker, range.from);
         cover_range(query, &mut scratch, range, &mut steps, &mut list)?;
     }
@@ -151,14 +151,14 @@ fn found_counted<Q: Query, G: Gate, L: Ledger>(
 }
 
 // The ranks of a block, of which the last may have fewer than the others.
-fn range_of(shares: Shares, number: u64) -> Range
-    requires block { number < div_ceil shares.ranks shares.block }
-    ensures ranks { (rank : ℕ) → rank < shares.ranks → IsInRange result rank ↔ (rank / shares.block ≡ number) }
-    ensures within { (result.from < result.to) × (result.to ≤ shares.ranks) }
+fn range_of(blocks: Blocks, number: u64) -> Range
+    requires block { number < div_ceil blocks.ranks blocks.block }
+    ensures ranks { (rank : ℕ) → rank < blocks.ranks → IsInRange result rank ↔ (rank / blocks.block ≡ number) }
+    ensures within { (result.from < result.to) × (result.to ≤ blocks.ranks) }
 {
-    let from = number * shares.block;
+    let from = number * blocks.block;
     Range {
         from,
-        to: from + shares.block.min(shares.ranks - from),
+        to: from + blocks.block.min(blocks.ranks - from),
     }
 }

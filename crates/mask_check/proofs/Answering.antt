@@ -24,7 +24,7 @@ use Rattle.mask_check.specs.declared.asked.Asked.TheVariants.{Notion, Leaking}
 use Rattle.mask_check.specs.Questions.{Question, breaks, asked_by, questions, questions_by, items, FailsIn, QuestionAnswer, IsAnswerTo, NoneFails}
 use Rattle.mask_check.specs.Report.{head_lines, leak_lines, answer_lines, greatest_lines, listing_by, are_empty, ending}
 use Rattle.mask_check.specs.Tallying.{Tallying, AreFed, tally_part}
-use Rattle.mask_check.specs.Decisions.{event_questions, notion_answer, AnswersUntallied}
+use Rattle.mask_check.specs.Decisions.{event_questions, answer_of_notion, AnswersUntallied}
 use Rattle.mask_check.specs.Ends.{Answers, IsTold}
 
 -- the items of the tuples of an answer are among those that it is of
@@ -55,7 +55,7 @@ none_listed Failing count size answer is h = elim (empty_or_some answer) [
 ]
 
 -- whether the one answer is empty
-are_empty-one : (failing : List (List ℕ)) (secure : Bool) → IsTrue secure ↔ (failing ≡ []) → secure ≡ are_empty (notion_answer failing ∷ [])
+are_empty-one : (failing : List (List ℕ)) (secure : Bool) → IsTrue secure ↔ (failing ≡ []) → secure ≡ are_empty (answer_of_notion failing ∷ [])
 are_empty-one [] true h = refl
 are_empty-one [] false h = absurd (false≢true (h.1 refl))
 are_empty-one (t ∷ ts) true h = let e = h.0 refl in absurd (cc)
@@ -88,7 +88,7 @@ Answers-from_untallied s g tallies answers status text whole untallied fed added
 }
 
 module _ (s : Settings) (g : Circuit) (n : NotionKind) (are : asked_by s.task ≡ Notion n) (failing : List (List ℕ))
-    (is : IsAnswerTo s g (breaks n s.t) (notion_answer failing)) where
+    (is : IsAnswerTo s g (breaks n s.t) (answer_of_notion failing)) where
   -- no tuple fails where none is listed, and the other way round
   NoneFails-from_empty : failing ≡ [] → NoneFails s g
   NoneFails-from_empty e q among tuple fits fails =
@@ -115,16 +115,16 @@ module _ (s : Settings) (g : Circuit) (n : NotionKind) (are : asked_by s.task �
 
   -- the verdict and the report of the one answer
   pub AnswersUntallied-verdict : (secure : Bool) (status : Status) (text : List ℕ) → IsTrue secure ↔ (failing ≡ []) → status ≡ status_by secure →
-      text ≡ head_lines s g ++ fail_lines (items s g) failing ++ verdict secure → AnswersUntallied s g (notion_answer failing ∷ []) status text
+      text ≡ head_lines s g ++ fail_lines (items s g) failing ++ verdict secure → AnswersUntallied s g (answer_of_notion failing ∷ []) status text
   AnswersUntallied-verdict secure status text empty ended written =
-      let one : secure ≡ are_empty (notion_answer failing ∷ []) = are_empty-one failing secure empty in
-      let lines : fail_lines (items s g) failing ≡ answer_lines (items s g) (breaks n s.t ∷ []) (notion_answer failing ∷ []) =
+      let one : secure ≡ are_empty (answer_of_notion failing ∷ []) = are_empty-one failing secure empty in
+      let lines : fail_lines (items s g) failing ≡ answer_lines (items s g) (breaks n s.t ∷ []) (answer_of_notion failing ∷ []) =
       sym (append-nil (fail_lines (items s g) failing)) ∙ sym (append-nil (fail_lines (items s g) failing ++ [])) in
-      AnswersUntallied-from s g (Notion n) are (notion_answer failing ∷ []) status text (is, tt)
+      AnswersUntallied-from s g (Notion n) are (answer_of_notion failing ∷ []) status text (is, tt)
       (written
       ∙ ap (λ (xs : List ℕ). xs ++ fail_lines (items s g) failing ++ verdict secure) (sym (append-nil (head_lines s g)))
       ∙ ap (λ (xs : List ℕ). head_lines s g ++ [] ++ xs ++ verdict secure) lines
-      ∙ ap (λ (yes_ : Bool). head_lines s g ++ [] ++ answer_lines (items s g) (breaks n s.t ∷ []) (notion_answer failing ∷ []) ++ verdict yes_) one)
+      ∙ ap (λ (yes_ : Bool). head_lines s g ++ [] ++ answer_lines (items s g) (breaks n s.t ∷ []) (answer_of_notion failing ∷ []) ++ verdict yes_) one)
       (ended ∙ ap status_by one)
       (subst (IsTold s g) (sym ended) (told secure empty))
 

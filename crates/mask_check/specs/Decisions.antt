@@ -87,8 +87,8 @@ abbrev pub answer_of : code.QuestionAnswer → QuestionAnswer
 answer_of answer = record { failing = answer.failing; coefficients = answer.coefficients.items }
 
 -- the answer to the question of a notion, which has no coefficients
-abbrev pub notion_answer : List (List ℕ) → QuestionAnswer
-notion_answer failing = record { failing = failing; coefficients = [] }
+abbrev pub answer_of_notion : List (List ℕ) → QuestionAnswer
+answer_of_notion failing = record { failing = failing; coefficients = [] }
 
 -- A notion is asked for, these are the check's items, so many tuples of them are asked about, and these are the minimal
 -- ones that fail.
@@ -98,7 +98,7 @@ pub record IsNotionAnswer
   pub asks : asked_by s.task ≡ Notion notion
   pub items_are : of_items ≡ items s g
   pub counted : count ≡ tuple_count s g
-  pub right : IsAnswerTo s g (breaks notion s.t) (notion_answer failing)
+  pub right : IsAnswerTo s g (breaks notion s.t) (answer_of_notion failing)
 
 -- the input that an event asks of is one that a gadget may have
 abbrev pub HasSmallWhich : Event → Type 0

@@ -8,7 +8,8 @@ ghost use Rattle.wire_table.specs.Items.{item_of};
 ghost use Rattle.mask_check.specs.declared.asked.Asked.TheVariants as ask;
 ghost use Rattle.mask_check.specs.Questions.{asked_by};
 ghost use Rattle.mask_check.specs.Tallying.{state_of, tallying_of};
-ghost use Rattle.mask_check.specs.Decisions.{notion_answer, AnswersUntallied, Decides, Declines, IsNotionAnswer, IsReady};
+ghost use Rattle.mask_check.specs.Decisions.{answer_of_notion, AnswersUntallied, Decides, Declines};
+ghost use Rattle.mask_check.specs.Decisions.{IsNotionAnswer, IsReady};
 
 use crate::answer::{Answer, QuestionAnswer};
 use crate::refusals::refused_notion;
@@ -89,7 +90,7 @@ fn verdict(
     requires check { is_demo settings.now.task ≡ false }
     requires answer { IsNotionAnswer settings.now gadget.now (map item_of items.now) tuples failing.now }
     ensures { IfOk result
-        (λ a. AnswersUntallied settings.now gadget.now (notion_answer failing.now ∷ []) a.status a.report) }
+        (λ a. AnswersUntallied settings.now gadget.now (answer_of_notion failing.now ∷ []) a.status a.report) }
 {
     let secure = failing.is_empty();
     let mut report = Report::new(alloc);

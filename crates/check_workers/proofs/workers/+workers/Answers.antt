@@ -1,13 +1,13 @@
 use Rattle.std.proofs.Common.{◌+◌, ◌-◌, ◌/◌, subst, arith}
 use Rattle.std.specs.Prelude.{IfOk}
 use Rattle.check_workers.specs.Passes.{CoversRanked, IsTaken}
-use Rattle.check_workers.proofs.Shared.{CoversRanked-merged, IsTaken-halves}
+use Rattle.check_workers.proofs.Blocks.{CoversRanked-merged, IsTaken-halves}
 use Rattle.check_workers.proofs.workers.+workers.Goals as goal
 
 pub returns-clause-covers : goal.returns-clause-covers
 returns-clause-covers g t c =
-    let workers = c.args.shares.workers in
-    let block = c.args.shares.block in
+    let workers = c.args.blocks.workers in
+    let block = c.args.blocks.block in
     let first = c.args.first in
     let end = c.args.end in
     let middle = first + (end - first) / 2 in

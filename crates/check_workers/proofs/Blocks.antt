@@ -1,4 +1,4 @@
--- How the ranks are shared out among the workers, and how lists of several kinds of ranks come together.
+-- How the ranks are cut into blocks for the workers, and how lists of several kinds of ranks come together.
 use Rattle.std.proofs.Common.{◌≡◌, ◌↔◌, ◌⊎◌, ℕ, zero, suc, ◌+◌, ◌*◌, ◌/◌, ◌%◌, ◌<◌, ◌≤◌, List, [], length, ap, sym, ◌∙◌, inl, inr, arith, subst, min, Result, Ok, Err}
 use Rattle.std.specs.Prelude.{IfOk}
 use Rattle.std.specs.Int.{div_ceil}
@@ -166,9 +166,9 @@ IsTakenBefore-next workers block worker number rank range some turn within = (
 )
 
 -- past the last block, all of the worker's ranks came before
-pub IsTakenBefore-all : (workers block worker number ranks blocks rank : ℕ) → 0 < block → blocks ≡ div_ceil ranks block → blocks ≤ number → rank < ranks →
+pub IsTakenBefore-all : (workers block worker number ranks block_count rank : ℕ) → 0 < block → block_count ≡ div_ceil ranks block → block_count ≤ number → rank < ranks →
     IsTaken workers block worker (worker + 1) rank ↔ IsTakenBefore workers block worker number rank
-IsTakenBefore-all workers block worker number ranks blocks rank some is past less =
+IsTakenBefore-all workers block worker number ranks block_count rank some is past less =
     let whole = (div_ceil_times ranks block some).0 in
     let of_block = div_below rank block (div_ceil ranks block) some (omega arith) in (
       (λ k. let low = k.0 in let high = k.1 in (omega arith, omega arith)),
@@ -186,7 +186,7 @@ module _ (Fails : List ℕ → Type 0) (items size workers block worker ranks : 
       (IsTakenBefore workers block worker number) range before after
       (λ rank less. IsTakenBefore-next workers block worker number rank range some turn (within rank (omega arith)))
 
-  pub CoversRanked-worker : (number blocks : ℕ) (list : List (List ℕ)) → blocks ≡ div_ceil ranks block → blocks ≤ number →
+  pub CoversRanked-worker : (number block_count : ℕ) (list : List (List ℕ)) → block_count ≡ div_ceil ranks block → block_count ≤ number →
       CoversRanked Fails items size (IsTakenBefore workers block worker number) list → CoversRanked Fails items size (IsTaken workers block worker (worker + 1)) list
-  CoversRanked-worker number blocks list is past = CoversRanked-same Fails items size (IsTaken workers block worker (worker + 1)) (IsTakenBefore workers block worker number) list
-      (λ rank less. IsTakenBefore-all workers block worker number ranks blocks rank some_ranks is past (omega arith))
+  CoversRanked-worker number block_count list is past = CoversRanked-same Fails items size (IsTaken workers block worker (worker + 1)) (IsTakenBefore workers block worker number) list
+      (λ rank less. IsTakenBefore-all workers block worker number ranks block_count rank some_ranks is past (omega arith))
