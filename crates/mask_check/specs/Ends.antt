@@ -1,4 +1,4 @@
--- How a check ends: what each status says of the words, of what was read, and of what was written.
+-- How a check ends: what each status says of the words, of what was read and written, and of the tallies.
 use Rattle.std.specs.Prelude.{◌≡◌, ◌≢◌, ℕ, ◌+◌, ◌<◌, ◌≤◌, ◌⊎◌, List, length, drop, Option, Some, None, IfSome, Result, Ok, Err}
 use Rattle.std.specs.List.{AllZip}
 use Rattle.std.specs.Io.KnownBytes.{IsAtEnd, append_known}
