@@ -1,13 +1,14 @@
 //! Tallies that aren't the program's own.
 
-ghost use Rattle.std.specs.Prelude.{◌≡◌, ◌≤◌, [], ◌∷◌, length};
+ghost use Rattle.std.specs.Prelude.{◌≤◌, [], length};
 ghost use Rattle.std.proofs.Common.{zero-le};
 ghost use Rattle.tallies.specs.declared.tally.TallyKind.TheVariants.{Size};
-ghost use Rattle.tallies.specs.Counting.{most_labels, raised_at};
+ghost use Rattle.tallies.specs.Counting.{most_labels};
 
 use mask_check::{Cell, Label, Tally};
 use std::sync::Arc;
 use std::sync::atomic::{AtomicU64, Ordering};
+use tallies::raise;
 use tuple_order::Tuple;
 
 /// How many tuples are empty, and how many have one item.
@@ -42,15 +43,6 @@ impl Tally for FewSizes {
     }
 
     ghost few = { λ tally. tally.few };
-}
-
-// Raises the count at a place, if there is such a place.
-fn raise(counts: &mut [u64], place: usize)
-    ensures { counts.new ≡ raised_at (place ∷ []) counts.old }
-{
-    if place < counts.len() {
-        counts[place] = counts[place].saturating_add(1);
-    }
 }
 
 /// A tally without counts. How many such tallies were dropped is counted apart.

@@ -1,7 +1,6 @@
 //! Multiplications, and gadgets outside the verifier's class.
 
-use crate::fixture::{MULTIPLICATION, check_source};
-use mask_bytes::SureSource;
+use crate::fixture::{MULTIPLICATION, check_bytes};
 use mask_check::Status;
 use std::test::Fail;
 use wire_table::WireError;
@@ -65,10 +64,8 @@ const REFUSED: [(&str, WireError); 5] = [
 
 #[test]
 fn multiplications_are_checked(rt: HostRuntime) -> Result<(), Fail> {
-    let alloc = rt.alloc();
     for (file, report) in MULTIPLICATIONS {
-        let mut source = SureSource::make(file.as_bytes().to_vec(alloc)?);
-        let outcome = check_source(&rt, "1", &mut source)?;
+        let outcome = check_bytes(&rt, "1", file.as_bytes())?;
         assert_eq!(rt; outcome.status, Status::Yes, "{file}");
         assert_eq!(rt; outcome.text.as_str(), report);
     }
@@ -77,10 +74,8 @@ fn multiplications_are_checked(rt: HostRuntime) -> Result<(), Fail> {
 
 #[test]
 fn gadgets_outside_the_class_are_refused(rt: HostRuntime) -> Result<(), Fail> {
-    let alloc = rt.alloc();
     for (file, error) in REFUSED {
-        let mut source = SureSource::make(file.as_bytes().to_vec(alloc)?);
-        let outcome = check_source(&rt, "1", &mut source)?;
+        let outcome = check_bytes(&rt, "1", file.as_bytes())?;
         assert_eq!(rt; outcome.status, Status::Wires(error), "{file}");
         assert_eq!(rt; outcome.text.as_str(), "");
     }

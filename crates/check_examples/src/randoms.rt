@@ -1,7 +1,6 @@
 //! Gadgets with random bits.
 
-use crate::fixture::{REFRESH, REFRESH_REPORT, check_source};
-use mask_bytes::SureSource;
+use crate::fixture::{REFRESH, REFRESH_REPORT, check_bytes};
 use mask_check::Status;
 use std::test::Fail;
 
@@ -18,10 +17,8 @@ const REFRESHES: [(&str, Status, &str); 2] = [
 
 #[test]
 fn random_hides_a_share_until_it_cancels(rt: HostRuntime) -> Result<(), Fail> {
-    let alloc = rt.alloc();
     for (file, status, report) in REFRESHES {
-        let mut source = SureSource::make(file.as_bytes().to_vec(alloc)?);
-        let outcome = check_source(&rt, "1", &mut source)?;
+        let outcome = check_bytes(&rt, "1", file.as_bytes())?;
         assert_eq!(rt; outcome.status, status);
         assert_eq!(rt; outcome.text.as_str(), report);
     }

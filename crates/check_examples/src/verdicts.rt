@@ -1,7 +1,7 @@
 //! Verdicts on a gadget with a sum of both shares, and their reports.
 
-use crate::fixture::{SUM, SUM_REPORT, check_into, check_source, source_of};
-use mask_bytes::{MemSink, SureSource};
+use crate::fixture::{SUM, SUM_REPORT, check_bytes, check_into, source_of};
+use mask_bytes::MemSink;
 use mask_check::Status;
 use std::test::Fail;
 
@@ -22,10 +22,8 @@ const VERDICTS: [(&str, Status, &str); 3] = [
 
 #[test]
 fn sum_of_both_shares_fails_at_order_one_alone(rt: HostRuntime) -> Result<(), Fail> {
-    let alloc = rt.alloc();
     for (order, status, report) in VERDICTS {
-        let mut source = SureSource::make(SUM.as_bytes().to_vec(alloc)?);
-        let outcome = check_source(&rt, order, &mut source)?;
+        let outcome = check_bytes(&rt, order, SUM.as_bytes())?;
         assert_eq!(rt; outcome.status, status, "at order {order}");
         assert_eq!(rt; outcome.text.as_str(), report);
     }

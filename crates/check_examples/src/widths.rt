@@ -1,7 +1,6 @@
 //! The widest polynomials that a variable may have.
 
-use crate::fixture::check_source;
-use mask_bytes::SureSource;
+use crate::fixture::check_bytes;
 use mask_check::Status;
 use std::alloc::{AllocError, Global};
 use std::test::Fail;
@@ -40,8 +39,7 @@ fn file(alloc: Global, more: &str) -> Result<String, AllocError> {
 fn two_hundred_and_fifty_six_monomials_are_no_offence(rt: HostRuntime) -> Result<(), Fail> {
     let alloc = rt.alloc();
     let file = file(alloc, "")?;
-    let mut source = SureSource::make(file.as_bytes().to_vec(alloc)?);
-    let outcome = check_source(&rt, "0", &mut source)?;
+    let outcome = check_bytes(&rt, "0", file.as_bytes())?;
     assert_eq!(rt; outcome.status, Status::Yes);
     let report =
         "check ni 0\ngadget shares 16 inputs 3 outputs 1 randoms 0 variables 95\nspace items 95 size 0 tuples 1\nverdict yes\n";
@@ -53,8 +51,7 @@ fn two_hundred_and_fifty_six_monomials_are_no_offence(rt: HostRuntime) -> Result
 fn one_monomial_more_is_refused(rt: HostRuntime) -> Result<(), Fail> {
     let alloc = rt.alloc();
     let file = file(alloc, "u = t + c0\n")?;
-    let mut source = SureSource::make(file.as_bytes().to_vec(alloc)?);
-    let outcome = check_source(&rt, "0", &mut source)?;
+    let outcome = check_bytes(&rt, "0", file.as_bytes())?;
     let refused = WireError::TooWide { var: 79, line: 5 };
     assert_eq!(rt; outcome.status, Status::Wires(refused));
     assert_eq!(rt; outcome.text.as_str(), "");

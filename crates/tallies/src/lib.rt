@@ -8,4 +8,5 @@ mod tally;
 
 pub use by_item::ByItem;
 pub use by_size::BySize;
+pub use raising::raise;
 pub use tally::{Cell, Label, Tally, TallyKind};
