@@ -1,11 +1,15 @@
 //! Any number of workers, and any size of block, gives one report.
 
 use crate::fixture::{PAIR_REPORT, REFRESH, check_as, owned};
+use check_workers::minimal;
+use gadget_tree::read_gadget;
 use mask_bytes::{MemSink, SureSource};
 use mask_check::{Gate, Status, check};
+use notions::{Notion, NotionQuery};
 use std::sync::atomic::{AtomicBool, Ordering};
 use std::test::Fail;
 use std::thread::yield_now;
+use wire_table::WireTable;
 
 // A refresh of three shares by two random bits. The inner wire `d0.1`, which is `a0 + r0`, and the second share of the
 // output sum to two shares of the input.
@@ -49,6 +53,23 @@ struct Meeting {
     gave_up: AtomicBool,
 }
 
+impl Meeting {
+    fn new() -> Meeting {
+        Meeting {
+            first_came: AtomicBool::new(false),
+            second_came: AtomicBool::new(false),
+            gave_up: AtomicBool::new(false),
+        }
+    }
+
+    // Whether both workers came to a block, and neither waited in vain.
+    fn is_met(&self) -> bool {
+        self.first_came.load(Ordering::SeqCst)
+            && self.second_came.load(Ordering::SeqCst)
+            && !self.gave_up.load(Ordering::SeqCst)
+    }
+}
+
 impl Gate for Meeting {
     fn at_block(&self, worker: u16, _block: u64) {
         let (own, other) = if worker == 0 {
@@ -70,11 +91,7 @@ impl Gate for Meeting {
 #[test]
 fn two_workers_meet(rt: HostRuntime) -> Result<(), Fail> {
     let alloc = rt.alloc();
-    let gate = Meeting {
-        first_came: AtomicBool::new(false),
-        second_came: AtomicBool::new(false),
-        gave_up: AtomicBool::new(false),
-    };
+    let gate = Meeting::new();
     let words = owned(
         alloc,
         &["mask", "sni", "2", "--workers", "2", "--block", "1"],
@@ -90,10 +107,23 @@ fn two_workers_meet(rt: HostRuntime) -> Result<(), Fail> {
         &gate,
         &mut Vec::new(alloc),
     );
-    assert!(rt; !gate.gave_up.load(Ordering::SeqCst));
-    assert!(rt; gate.first_came.load(Ordering::SeqCst));
-    assert!(rt; gate.second_came.load(Ordering::SeqCst));
+    assert!(rt; gate.is_met());
     assert_eq!(rt; status, Status::No);
     assert_eq!(rt; sink.bytes(), PAIR_REPORT.as_bytes());
+    Ok(())
+}
+
+#[test]
+fn two_workers_of_a_query_meet(rt: HostRuntime) -> Result<(), Fail> {
+    let alloc = rt.alloc();
+    assert!(rt; REFRESH.len() <= 1_048_576);
+    let gadget = read_gadget(alloc, REFRESH.as_bytes())?;
+    let table = WireTable::make(alloc, &gadget)?;
+    let query = NotionQuery::make(alloc, &gadget, &table, Notion::Sni, 2)?;
+    let gate = Meeting::new();
+    let found = minimal(&rt, alloc, &query, 2, 1, 65536, &gate)?;
+    assert!(rt; gate.is_met());
+    assert_eq!(rt; found.len(), 1);
+    assert_eq!(rt; found.tuple(0).items(), [3, 4].as_slice());
     Ok(())
 }

@@ -8,6 +8,3 @@ mod workers;
 pub use gate::{Gate, OpenGate};
 pub use pass::cover_range;
 pub use workers::minimal;
-
-#[cfg(test)]
-mod tests;

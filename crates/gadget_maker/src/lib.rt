@@ -3,7 +3,5 @@
 
 mod maker;
 mod name;
-#[cfg(test)]
-mod tests;
 
 pub use maker::{LEAST_DEMO_SHARES, MOST_DEMO_SHARES, isw, refresh};

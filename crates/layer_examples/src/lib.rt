@@ -6,9 +6,19 @@ mod antichains;
 #[cfg(test)]
 mod coefficients;
 #[cfg(test)]
+mod command_lines;
+#[cfg(test)]
+mod demonstrations;
+#[cfg(test)]
+mod gates;
+#[cfg(test)]
 mod kernels;
 #[cfg(test)]
 mod polynomials;
+#[cfg(test)]
+mod queries;
+#[cfg(test)]
+mod statuses;
 #[cfg(test)]
 mod tables;
 #[cfg(test)]

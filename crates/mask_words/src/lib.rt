@@ -10,8 +10,6 @@ mod names;
 mod number;
 mod options;
 mod read_settings;
-#[cfg(test)]
-mod tests;
 
 pub use answer::{Settings, WordsError};
 pub use read_settings::settings;

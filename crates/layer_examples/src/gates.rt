@@ -1,60 +1,11 @@
-//! Gates that tell which worker was at which block, and that two workers work at the same time.
+//! A gate that tells which worker was at which block.
 
 ghost use Rattle.std.specs.Prelude.{◌<◌};
 
-use super::Table;
-use crate::{Gate, minimal};
+use crate::queries::Table;
+use check_workers::{Gate, minimal};
 use std::sync::atomic::{AtomicBool, AtomicU64, Ordering};
 use std::test::Fail;
-use std::thread::yield_now;
-
-// Keeps each of two workers at its first block until the other one has been at a block.
-#[derive(Drop)]
-struct Meeting {
-    first_came: AtomicBool,
-    second_came: AtomicBool,
-    gave_up: AtomicBool,
-}
-
-impl Gate for Meeting {
-    fn at_block(&self, worker: u16, _block: u64) {
-        let (own, other) = if worker == 0 {
-            (&self.first_came, &self.second_came)
-        } else {
-            (&self.second_came, &self.first_came)
-        };
-        own.store(true, Ordering::SeqCst);
-        for _turn in 0..50_000_000 {
-            if other.load(Ordering::SeqCst) {
-                return;
-            }
-            yield_now();
-        }
-        self.gave_up.store(true, Ordering::SeqCst);
-    }
-}
-
-#[test]
-fn two_workers_meet(rt: HostRuntime) -> Result<(), Fail> {
-    let gate = Meeting {
-        first_came: AtomicBool::new(false),
-        second_came: AtomicBool::new(false),
-        gave_up: AtomicBool::new(false),
-    };
-    let table = Table {
-        items: 4,
-        size: 2,
-        failing: &[&[1], &[0, 1], &[2, 3]],
-    };
-    let found = minimal(&rt, rt.alloc(), &table, 2, 1, 4, &gate)?;
-    assert!(rt; !gate.gave_up.load(Ordering::SeqCst));
-    assert!(rt; gate.first_came.load(Ordering::SeqCst));
-    assert!(rt; gate.second_came.load(Ordering::SeqCst));
-    assert_eq!(rt; found.len(), 2);
-    assert_eq!(rt; found.tuple(0).items(), [1].as_slice());
-    assert_eq!(rt; found.tuple(1).items(), [2, 3].as_slice());
-    Ok(())
-}
 
 // Counts the blocks, marks their numbers, and tells whether each had the worker and the first rank that it should.
 #[derive(Drop)]

@@ -1,11 +1,9 @@
 //! Queries with a table of what fails, and their minimal failing tuples, worked out by hand.
 
-mod gates;
-
 ghost use Rattle.std.specs.Prelude.{◌≡◌, ◌≤◌, ◌↔◌, Any, IsTrue};
 ghost use Rattle.tuple_model.specs.Limits.{most_items, most_size};
 
-use crate::{OpenGate, minimal};
+use check_workers::{OpenGate, minimal};
 use cover_core::{Query, Question};
 use mask_bytes::OutOfMemory;
 use std::alloc::Global;
@@ -13,12 +11,12 @@ use std::sync::ledger::Ledger;
 use std::test::Fail;
 use tuple_order::{Steps, Tuple};
 
-// The tuples of a table fail.
+/// The tuples of a table fail.
 #[derive(Drop)]
-struct Table<'a> {
-    items: u16,
-    size: u8,
-    failing: &'a [&'a [u16]],
+pub struct Table<'a> {
+    pub items: u16,
+    pub size: u8,
+    pub failing: &'a [&'a [u16]],
     ghost few: { items ≤ most_items },
     ghost small: { size ≤ most_size },
 }

@@ -1,6 +1,7 @@
-//! Tests of `settings` on command lines that few would write.
-use crate::{Settings, WordsError, settings};
+//! Settings of command lines that few would write.
+
 use mask_terms::{Opt, Task, UsageKind, Wires};
+use mask_words::{Settings, WordsError, settings};
 use std::alloc::{AllocError, Global};
 use std::string::String;
 
