@@ -7,4 +7,4 @@ mod exact_sets;
 mod laws;
 
 pub use counting::coefficients;
-pub use laws::coefficient_law;
+pub use laws::{coefficient_law, wire_sets_law};
