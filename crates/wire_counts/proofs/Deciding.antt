@@ -1,14 +1,15 @@
 -- Coefficients of what a list covers, which is settled for each tuple: sums over the tuples that it covers.
-use Rattle.std.proofs.Common.{◌≡◌, ℕ, ◌*◌, ◌≤◌, ◌⊎◌, List, [], ◌∷◌, length, Contains, refl, ap, sym, ◌∙◌, inl, inr, arith, subst}
+use Rattle.std.proofs.Common.{◌≡◌, ℕ, ◌+◌, ◌*◌, ◌≤◌, ◌⊎◌, List, [], ◌∷◌, length, replicate, Contains, refl, ap, sym, ◌∙◌, inl, inr, arith, subst}
 use Rattle.std.specs.List.{sum_by}
 use Rattle.std.proofs.lemmas.Bool.{cases_eq}
+use Rattle.std.proofs.lemmas.List.{length-replicate, get_or-replicate}
 use Rattle.std.proofs.lemmas.List.Sums.{sum_by-cons}
 use Rattle.list_laws.proofs.Members.{Contains-cons_head, Contains-cons_tail, Contains-cons_cases}
 use Rattle.list_laws.proofs.Once.{Contains-nil}
 use Rattle.tuple_model.specs.Tuples.{IsSubset, tuples}
 use Rattle.tuple_model.specs.Minimal.{Picks}
 use Rattle.tuple_model.specs.Antichains.{Covers}
-use Rattle.wire_counts.specs.Coefficients.{item_wires, sets_of_size, items_of_wires, IsCoefficient}
+use Rattle.wire_counts.specs.Coefficients.{item_wires, sets_of_size, items_of_wires, IsCoefficient, AreCoefficients}
 use Rattle.wire_counts.specs.Ways.{sets_with}
 use Rattle.wire_counts.proofs.ByTuples.{over-tuples}
 
@@ -44,6 +45,25 @@ covers_or_not (s ∷ list) t = elim (subset_or_not s t) [
     ])
   ]
 ]
+
+-- no element of a list is picked where a fact holds of none
+none-picked : {X : Type 0} (P : X → Type 0) (xs : List X) → ((x : X) → P x → ⊥) → Picks P xs []
+none-picked P [] none = refl
+none-picked P (x ∷ xs) none = inr (none x, none-picked P xs none)
+
+-- of an empty list all coefficients are zeros
+pub coefficients-empty : (list : List (List ℕ)) (weights : List ℕ) (size : ℕ) → list ≡ [] → AreCoefficients (Covers list) weights size (replicate (size + 1) 0)
+coefficients-empty list weights size empty =
+    let n = length-replicate {A = ℕ} (size + 1) 0 in
+    record {
+      all = omega arith;
+      each = λ i l. record {
+        failing = [];
+        picked = none-picked (λ set. Covers list (items_of_wires set)) (sets_of_size i (item_wires weights))
+            (λ set covers. Contains-nil covers.0 (subst (λ (sets : List (List ℕ)). Contains sets covers.0) empty covers.1));
+        count = sym (get_or-replicate (size + 1) i 0 0 (omega arith));
+      };
+    }
 
 -- 1 where a fact holds, else 0
 abbrev pub one_where : {P : Type 0} → P ⊎ (P → ⊥) → ℕ

@@ -26,7 +26,8 @@ const BLOCK: u64 = 65_536;
 type Numbers = [u128; 7];
 
 /// For each number of wires up to `size`, how many sets of so many wires have items that the list covers. The tuples
-/// are counted in threads, as many as there are processors and as far as threads can be started.
+/// are counted in threads, as many as there are processors and as far as threads can be started. For an empty list, which
+/// covers none, no tuple is looked at.
 pub fn coefficients<R: Threads + Sync>(
     rt: &R,
     alloc: Global,
@@ -40,6 +41,9 @@ pub fn coefficients<R: Threads + Sync>(
     ensures { IfOk result
         (λ numbers. AreCoefficients (Covers list.now) (weights_of (map item_of items.now)) size numbers.items) }
 {
+    if list.is_empty() {
+        return Ok(vec![in alloc; 0; usize::from(size) + 1]?);
+    }
     let binomials = binomials_of(alloc, items)?;
     let numbers = count_sets(rt, &binomials, list, size, BLOCK);
     Ok(numbers[..usize::from(size) + 1].to_vec(alloc)?)
