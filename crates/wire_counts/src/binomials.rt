@@ -7,6 +7,7 @@ ghost use Rattle.wire_counts.specs.Coefficients.{weights_of};
 ghost use Rattle.wire_counts.specs.Limits.{most_weight};
 ghost use Rattle.wire_counts.specs.Ways.{ways_to_choose};
 
+use crate::numbers::MOST_WIRES;
 use mask_bytes::OutOfMemory;
 use std::alloc::Global;
 use std::marker::Model;
@@ -17,7 +18,7 @@ use wire_table::Item;
 #[derive(Drop)]
 pub struct Binomials {
     // At place k, in how many ways k + 1 wires are chosen.
-    numbers: [u128; 6],
+    numbers: [u128; MOST_WIRES],
 }
 
 impl Model for Binomials {
@@ -37,9 +38,9 @@ impl Binomials {
         requires { weight ≤ most_weight }
         ensures { result ≡ weight }
     {
-        let mut numbers = [0; 6];
+        let mut numbers = [0; MOST_WIRES];
         let mut of_size: u128 = 1;
-        for place in 0..6 {
+        for place in 0..MOST_WIRES {
             // Each set can be made larger by any wire that it lacks, and each larger one comes from as many sets as it
             // has wires. So the division leaves no rest.
             let lacking = u128::from(weight.saturating_sub(place as u32));

@@ -11,6 +11,7 @@ ghost use Rattle.wire_counts.specs.Ways.{AddsSets, AreAdded, AreCounted, IsWithi
 
 use crate::binomials::{Binomials, binomials_of};
 use crate::exact_sets::exact_sets;
+use crate::numbers::{Numbers, SIZES};
 use antichain_list::Antichain;
 use mask_bytes::OutOfMemory;
 use rayon::prelude::*;
@@ -21,9 +22,6 @@ use wire_table::Item;
 
 // How many ranks a block has.
 const BLOCK: u64 = 65_536;
-
-// At place i a number of sets of i wires. A block's numbers take no memory that a thread could lack.
-type Numbers = [u128; 7];
 
 /// For each number of wires up to `size`, how many sets of so many wires have items that the list covers. The tuples
 /// are counted in threads, as many as there are processors and as far as threads can be started. For an empty list, which
@@ -79,7 +77,7 @@ fn count_sets<R: Threads + Sync>(
             rt,
             || -> Numbers
                 ensures { (i : ℕ) → slice_index result i ≡ 0 }
-            { [0; 7] },
+            { [0; SIZES] },
             |left: Numbers, right: Numbers| -> Numbers
                 ensures { AreAdded left right result }
             { added(left, right) },
@@ -107,7 +105,7 @@ fn count_range(binomials: &[Binomials], list: &Antichain, size: u8, range: Range
     ensures { AreCounted (Covers list.now) binomials.now size range.from range.to result }
 {
     let items = binomials.len() as u16;
-    let mut numbers = [0; 7];
+    let mut numbers = [0; SIZES];
     let mut t = unrank(items, size, range.from);
     for _rank in range.from..range.to {
         if list.covers(&t).is_some() {
@@ -122,8 +120,8 @@ fn count_range(binomials: &[Binomials], list: &Antichain, size: u8, range: Range
 fn added(left: Numbers, right: Numbers) -> Numbers
     ensures { AreAdded left right result }
 {
-    let mut sums = [0; 7];
-    for place in 0..7 {
+    let mut sums = [0; SIZES];
+    for place in 0..SIZES {
         sums[place] = left[place].wrapping_add(right[place]);
     }
     sums

@@ -5,6 +5,7 @@ mod binomials;
 mod counting;
 mod exact_sets;
 mod laws;
+mod numbers;
 
 pub use counting::coefficients;
 pub use laws::{coefficient_law, wire_sets_law};
