@@ -1,7 +1,6 @@
 -- Coefficients of what a list covers, which is settled for each tuple: sums over the tuples that it covers.
 use Rattle.std.proofs.Common.{◌≡◌, ℕ, ◌+◌, ◌*◌, ◌≤◌, ◌⊎◌, List, [], ◌∷◌, length, replicate, Contains, refl, ap, sym, ◌∙◌, inl, inr, arith, subst}
 use Rattle.std.specs.List.{sum_by}
-use Rattle.std.proofs.lemmas.Bool.{cases_eq}
 use Rattle.std.proofs.lemmas.List.{length-replicate, get_or-replicate}
 use Rattle.std.proofs.lemmas.List.Sums.{sum_by-cons}
 use Rattle.list_laws.proofs.Members.{Contains-cons_head, Contains-cons_tail, Contains-cons_cases}
@@ -9,33 +8,14 @@ use Rattle.list_laws.proofs.Once.{Contains-nil}
 use Rattle.tuple_model.specs.Tuples.{IsSubset, tuples}
 use Rattle.tuple_model.specs.Minimal.{Picks}
 use Rattle.tuple_model.specs.Antichains.{Covers}
+use Rattle.tuple_model.proofs.Antichains.{IsSubset-or_not}
 use Rattle.wire_counts.specs.Coefficients.{item_wires, sets_of_size, items_of_wires, IsCoefficient, AreCoefficients}
 use Rattle.wire_counts.specs.Ways.{sets_with}
 use Rattle.wire_counts.proofs.ByTuples.{over-tuples}
 
-contains_or_not : (xs : List ℕ) (x : ℕ) → Contains xs x ⊎ (Contains xs x → ⊥)
-contains_or_not [] x = inr (Contains-nil x)
-contains_or_not (y ∷ xs) x = elim (cases_eq y x) [
-  | inl same ↦ inl (subst (Contains (y ∷ xs)) same (Contains-cons_head y xs))
-  | inr other ↦ elim (contains_or_not xs x) [
-    | inl h ↦ inl (Contains-cons_tail y xs x h)
-    | inr n ↦ inr (λ h. elim (Contains-cons_cases y xs x h) [ inl e ↦ other e | inr k ↦ n k ])
-  ]
-]
-
-subset_or_not : (s t : List ℕ) → IsSubset s t ⊎ (IsSubset s t → ⊥)
-subset_or_not [] t = inl (λ item h. absurd (Contains-nil item h))
-subset_or_not (x ∷ s) t = elim (contains_or_not t x) [
-  | inr n ↦ inr (λ h. n (h x (Contains-cons_head x s)))
-  | inl here ↦ elim (subset_or_not s t) [
-    | inr n ↦ inr (λ h. n (λ item k. h item (Contains-cons_tail x s item k)))
-    | inl rest ↦ inl (λ item h. elim (Contains-cons_cases x s item h) [ inl e ↦ subst (Contains t) e here | inr k ↦ rest item k ])
-  ]
-]
-
 pub covers_or_not : (list : List (List ℕ)) (t : List ℕ) → Covers list t ⊎ (Covers list t → ⊥)
 covers_or_not [] t = inr (λ h. Contains-nil h.0 h.1)
-covers_or_not (s ∷ list) t = elim (subset_or_not s t) [
+covers_or_not (s ∷ list) t = elim (IsSubset-or_not s t) [
   | inl here ↦ inl (s, Contains-cons_head s list, here)
   | inr other ↦ elim (covers_or_not list t) [
     | inl h ↦ inl (h.0, Contains-cons_tail s list h.0 h.1, h.2)
