@@ -2,7 +2,6 @@
 use Rattle.std.proofs.Common.{◌≡◌, ℕ, ◌≤◌, Bool, true, false, List, Option, Some, None, Ok, drop, refl, subst}
 use Rattle.gadget_maker.specs.Limits.{least_demo_shares, most_demo_shares}
 use Rattle.gadget_maker.specs.Texts.{isw_text, refresh_text}
-use Rattle.tuple_model.specs.Limits.{most_size}
 use Rattle.mask_terms.specs.Tasks.{is_demo, leaks}
 use Rattle.mask_terms.specs.declared.task.Task.{Task}
 use Rattle.mask_terms.specs.declared.task.Task.TheVariants as tasks
@@ -10,11 +9,12 @@ use Rattle.notions.specs.declared.notion.Notion.{Notion as NotionKind}
 use Rattle.demo_laws.specs.Demos.{IsDemoFile}
 use Rattle.demo_laws.proofs.DemoFiles.{isw_file, refresh_file}
 use Rattle.mask_words.specs.declared.answer.Settings.{Settings}
+use Rattle.mask_words.specs.Answers.{HasDemoShares, IsWellFormed}
 use Rattle.mask_words.proofs.Shares.{demo_shares}
 use Rattle.mask_check.specs.declared.asked.Asked.TheVariants.{Notion, Leaking}
 use Rattle.mask_check.specs.Demonstrations.{check_by, check_of, made_by, made_file}
 use Rattle.mask_check.specs.Questions.{asked_by}
-use Rattle.mask_check.specs.Decisions.{HasDemoShares, IsReady}
+use Rattle.mask_check.specs.Decisions.{IsReady}
 use Rattle.mask_check.specs.Ends.{words_ask}
 
 some_is : (a b : List ℕ) → Some a ≡ Some b → a ≡ b
@@ -48,17 +48,25 @@ leaks-from_notion tasks.Pini n e = refl
 leaks-from_notion tasks.Rpc n e = absurd (cc)
 leaks-from_notion tasks.Rpe n e = absurd (cc)
 
-IsReady-by : (s : Settings) (demo : Bool) → is_demo s.task ≡ demo → (leaks s.task ≡ false → is_demo s.task ≡ false → s.size ≡ s.t) → s.size ≤ most_size →
-    1 ≤ s.workers → 1 ≤ s.block → IsReady (check_by demo s)
-IsReady-by s true e sized small workers block =
-    record { small = small; notion_size = λ n h. refl; some_workers = workers; some_block = block; check = refl }
-IsReady-by s false e sized small workers block =
-    record { small = small; notion_size = λ n h. sized (leaks-from_notion s.task n h) e; some_workers = workers; some_block = block; check = e }
+IsReady-by : (s : Settings) (demo : Bool) → is_demo s.task ≡ demo → IsWellFormed s → IsReady (check_by demo s)
+IsReady-by s true e formed = record {
+  small = formed.small;
+  notion_size = λ n h. refl;
+  some_workers = formed.some_workers;
+  some_block = formed.some_block;
+  check = refl;
+}
+IsReady-by s false e formed = record {
+  small = formed.small;
+  notion_size = λ n h. formed.notion_size (leaks-from_notion s.task n h) e;
+  some_workers = formed.some_workers;
+  some_block = formed.some_block;
+  check = e;
+}
 
--- what holds of settings makes the check that they ask for ready
-pub IsReady-from : (s : Settings) → (leaks s.task ≡ false → is_demo s.task ≡ false → s.size ≡ s.t) → s.size ≤ most_size → 1 ≤ s.workers → 1 ≤ s.block →
-    IsReady (check_of s)
-IsReady-from s sized small workers block = IsReady-by s (is_demo s.task) refl sized small workers block
+-- what holds of all settings makes the check that they ask for ready
+pub IsReady-from : (s : Settings) → IsWellFormed s → IsReady (check_of s)
+IsReady-from s formed = IsReady-by s (is_demo s.task) refl formed
 
 -- the file that a valid demonstration makes
 pub IsDemoFile-valid : (words : List (List ℕ)) (s : Settings) → words_ask words ≡ Ok s → (made : List ℕ) → made_file s ≡ Some made → IsDemoFile made

@@ -1,9 +1,8 @@
 -- What a check answers of a gadget, and why it may refuse it.
-use Rattle.std.specs.Prelude.{◌≡◌, ◌≤◌, ◌+◌, ◌⊎◌, ℕ, true, false, List, [], map, All, Option, Some, None}
+use Rattle.std.specs.Prelude.{◌≡◌, ◌≤◌, ◌+◌, ◌⊎◌, ℕ, false, List, [], map, All, Option, Some, None}
 use Rattle.std.specs.List.{AllZip}
 use Rattle.gadget_model.specs.Circuit.{Circuit}
 use Rattle.gadget_text.specs.Limits.{most_file_bytes}
-use Rattle.gadget_maker.specs.Limits.{least_demo_shares, most_demo_shares}
 use Rattle.tuple_model.specs.Limits.{most_size}
 use Rattle.mask_terms.specs.Tasks.{is_demo}
 use Rattle.wire_table.specs.Items.{Item}
@@ -33,10 +32,6 @@ pub record IsReady (s : Settings) : Type 0 where
   pub some_workers : 1 ≤ s.workers
   pub some_block : 1 ≤ s.block
   pub check : is_demo s.task ≡ false
-
--- a demonstration is of as many shares as one may have
-abbrev pub HasDemoShares : Settings → Type 0
-HasDemoShares s = is_demo s.task ≡ true → (least_demo_shares ≤ s.t) × (s.t ≤ most_demo_shares)
 
 -- nothing was read; or the check reads its file, and no more was read than a file may have and one byte
 abbrev pub ReadsLittleOf : {S : Type 0} → Settings → Reading S → Type 0

@@ -1,9 +1,10 @@
 //! The file of a check: what the source gives, or what a demonstration makes.
 
 ghost use Rattle.std.specs.Prelude.{◌≡◌, ◌≢◌, Err, MatchResult};
+ghost use Rattle.mask_words.specs.Answers.{HasDemoShares};
 ghost use Rattle.mask_check.specs.Demonstrations.{check_of};
 ghost use Rattle.mask_check.specs.Ends.{reading_of};
-ghost use Rattle.mask_check.specs.Decisions.{GetsFile, HasDemoShares, LacksFile};
+ghost use Rattle.mask_check.specs.Decisions.{GetsFile, LacksFile};
 
 use gadget_maker::{isw, refresh};
 use gadget_text::MOST_FILE_BYTES;

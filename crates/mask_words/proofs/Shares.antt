@@ -1,7 +1,7 @@
 -- Of how many shares a demonstration is.
-use Rattle.std.proofs.Common.{◌≡◌, ℕ, ◌≤◌, ◌&&◌, Bool, true, false, leb, List, Option, Some, None, Ok, Err, refl, ap, sym, ◌∙◌, subst, if◌then◌else◌, cond}
+use Rattle.std.proofs.Common.{◌≡◌, ℕ, ◌≤◌, ◌&&◌, Bool, true, false, List, Option, Some, None, Ok, Err, refl, ap, ◌∙◌, subst, if◌then◌else◌}
 use Rattle.std.specs.Prelude.{Result, nat_le, option_and_then, is_some, not, ◌||◌}
-use Rattle.std.proofs.lemmas.Bool.{leb-true, cases_Bool}
+use Rattle.std.proofs.lemmas.Bool.{leb-true}
 use Rattle.gadget_maker.specs.Limits.{least_demo_shares, most_demo_shares}
 use Rattle.mask_terms.specs.Tasks.{is_demo, leaks, task_named}
 use Rattle.mask_terms.specs.declared.task.Task.{Task}
@@ -9,6 +9,7 @@ use Rattle.mask_terms.specs.declared.task.Task.TheVariants as tasks
 use Rattle.mask_words.specs.Numbers.{number_between, short_number}
 use Rattle.mask_terms.specs.declared.usage_kind.UsageKind.TheVariants as kind
 use Rattle.mask_terms.specs.declared.wires.Wires.{Wires}
+use Rattle.mask_words.specs.Answers.{HasDemoShares}
 use Rattle.mask_words.specs.Options as options
 use Rattle.mask_words.specs.Reading.{CommandLine, command_line}
 use Rattle.mask_words.specs.Settings.{and_then, or_error, value_by, wires_by, size_of, least_order, greatest_order, order_from, settings_with, settings_from, settings_of}
@@ -87,8 +88,8 @@ of_demo tasks.Pini t l e = absurd (cc)
 of_demo tasks.Rpc t l e = absurd (cc)
 of_demo tasks.Rpe t l e = absurd (cc)
 
-from_line : (l : CommandLine) (s : Settings) → settings_from l ≡ Ok s → is_demo s.task ≡ true → (least_demo_shares ≤ s.t) × (s.t ≤ most_demo_shares)
-from_line l s e demo =
+from_line : (l : CommandLine) (s : Settings) → settings_from l ≡ Ok s → HasDemoShares s
+from_line l s e = λ demo.
     let go : Task → Result Settings WordsError = λ task. and_then (order_from l task) (λ t. settings_with l task t) in
     let (task, of_task, e1) = and_then-ok (or_error (task_named l.task) (Usage kind.Task)) go s e in
     let (t, of_t, e2) = and_then-ok (order_from l task) (λ t. settings_with l task t) s e1 in
@@ -99,7 +100,7 @@ from_line l s e demo =
     (of_demo task t range (ap is_demo is.0 ∙ demo))
 
 -- the settings of a demonstration have as many shares as one may have
-pub demo_shares : (words : List (List ℕ)) (s : Settings) → settings_of words ≡ Ok s → is_demo s.task ≡ true → (least_demo_shares ≤ s.t) × (s.t ≤ most_demo_shares)
+pub demo_shares : (words : List (List ℕ)) (s : Settings) → settings_of words ≡ Ok s → HasDemoShares s
 demo_shares words s e =
     let (l, of_line, e1) = and_then-ok (or_error (command_line words) (Usage kind.Words)) settings_from s e in
     from_line l s e1

@@ -1,9 +1,7 @@
 //! From the words of a command line to settings.
 
-ghost use Rattle.std.specs.Prelude.{◌≡◌, ◌≤◌, ◌+◌, IfOk, true, false, map, drop, option_map, string_bytes};
-ghost use Rattle.gadget_maker.specs.Limits.{least_demo_shares, most_demo_shares};
-ghost use Rattle.mask_terms.specs.Tasks.{is_demo, leaks};
-ghost use Rattle.mask_words.specs.Options.{least_block, least_workers, most_order, most_workers};
+ghost use Rattle.std.specs.Prelude.{◌≡◌, ◌≤◌, IfOk, map, drop, option_map, string_bytes};
+ghost use Rattle.mask_words.specs.Answers.{IsWellFormed};
 ghost use Rattle.mask_words.specs.Settings.{AgreesWith, least_order, greatest_order, size_of};
 ghost use Rattle.mask_words.specs.Settings.{settings_from, settings_of, wires_by};
 ghost use Rattle.mask_words.specs.Shown.{shown};
@@ -67,13 +65,7 @@ fn wires(text: Option<&str>) -> Result<Wires, WordsError>
 // The checks of what is given, in their order.
 fn settings_from(given: &Given) -> Result<Settings, WordsError>
     ensures settings { result ≡ settings_from (shown given.now) }
-    ensures order { IfOk result (λ s. s.t ≤ greatest_order s.task) }
-    ensures shares { IfOk result (λ s. is_demo s.task ≡ true → (least_demo_shares ≤ s.t) × (s.t ≤ most_demo_shares)) }
-    ensures size { IfOk result (λ s. leaks s.task ≡ false → is_demo s.task ≡ false → s.size ≡ s.t) }
-    ensures demo_size { IfOk result (λ s. is_demo s.task ≡ true → s.size + 1 ≡ s.t) }
-    ensures small { IfOk result (λ s. s.size ≤ most_order) }
-    ensures some_workers { IfOk result (λ s. (least_workers ≤ s.workers) × (s.workers ≤ most_workers)) }
-    ensures some_block { IfOk result (λ s. least_block ≤ s.block) }
+    ensures well_formed { IfOk result IsWellFormed }
 {
     let Some(task) = Task::named(given.task) else {
         return Err(WordsError::Usage(UsageKind::Task));
@@ -108,13 +100,7 @@ fn settings_from(given: &Given) -> Result<Settings, WordsError>
 /// the options' values in the order of their table, and at last whether the task uses `--size` and `--wires`.
 pub fn settings(alloc: Global, words: &[String]) -> Result<Settings, WordsError>
     ensures settings { AgreesWith (settings_of (drop 1 (map string_bytes words.now))) result }
-    ensures order { IfOk result (λ s. s.t ≤ greatest_order s.task) }
-    ensures shares { IfOk result (λ s. is_demo s.task ≡ true → (least_demo_shares ≤ s.t) × (s.t ≤ most_demo_shares)) }
-    ensures size { IfOk result (λ s. leaks s.task ≡ false → is_demo s.task ≡ false → s.size ≡ s.t) }
-    ensures demo_size { IfOk result (λ s. is_demo s.task ≡ true → s.size + 1 ≡ s.t) }
-    ensures small { IfOk result (λ s. s.size ≤ most_order) }
-    ensures some_workers { IfOk result (λ s. (least_workers ≤ s.workers) × (s.workers ≤ most_workers)) }
-    ensures some_block { IfOk result (λ s. least_block ≤ s.block) }
+    ensures well_formed { IfOk result IsWellFormed }
 {
     let Ok(read) = read(alloc, words) else {
         return Err(WordsError::OutOfMemory);

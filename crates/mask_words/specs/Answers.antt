@@ -1,0 +1,22 @@
+-- What holds of the settings that a command line gives.
+use Rattle.std.specs.Prelude.{◌≡◌, ◌≤◌, ◌+◌, true, false}
+use Rattle.gadget_maker.specs.Limits.{least_demo_shares, most_demo_shares}
+use Rattle.mask_terms.specs.Tasks.{is_demo, leaks}
+use Rattle.mask_words.specs.Options.{least_block, least_workers, most_order, most_workers}
+use Rattle.mask_words.specs.Settings.{greatest_order}
+use Rattle.mask_words.specs.declared.answer.Settings.{Settings}
+
+-- a demonstration is of as many shares as one may have
+abbrev pub HasDemoShares : Settings → Type 0
+HasDemoShares s = is_demo s.task ≡ true → (least_demo_shares ≤ s.t) × (s.t ≤ most_demo_shares)
+
+-- what holds of all settings that a command line gives
+pub record IsWellFormed (s : Settings) : Type 0 where
+  pub order : s.t ≤ greatest_order s.task
+  pub demo_shares : HasDemoShares s
+  pub notion_size : leaks s.task ≡ false → is_demo s.task ≡ false → s.size ≡ s.t
+  pub demo_size : is_demo s.task ≡ true → s.size + 1 ≡ s.t
+  pub small : s.size ≤ most_order
+  pub some_workers : least_workers ≤ s.workers
+  pub few_workers : s.workers ≤ most_workers
+  pub some_block : least_block ≤ s.block
