@@ -1,5 +1,6 @@
 //! What the words of a command line give: settings, or why there are none.
 
+use mask_bytes::OutOfMemory;
 use mask_terms::{Task, UsageKind, Wires};
 
 /// How a gadget is to be checked.
@@ -34,4 +35,15 @@ pub enum WordsError {
     SizeNotUsed,
     /// Memory ran out.
     OutOfMemory,
+}
+
+impl From<OutOfMemory> for WordsError {
+    ghost use Rattle.std.specs.Prelude.{◌≡◌};
+    ghost use Rattle.mask_words.specs.declared.answer.WordsError.TheVariants as error;
+
+    ghost from_gives = { λ _ e. e ≡ error.OutOfMemory };
+
+    fn from(_error: OutOfMemory) -> WordsError {
+        WordsError::OutOfMemory
+    }
 }

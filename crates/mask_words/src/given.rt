@@ -64,9 +64,7 @@ pub(crate) fn read<'a>(alloc: Global, words: &'a [String]) -> Result<Option<Give
     if has_lone(words) {
         return Ok(None);
     }
-    let Ok(command) = mask_command(alloc) else {
-        return Err(OutOfMemory);
-    };
+    let command = mask_command(alloc)?;
     match command.try_get_matches_from(words) {
         Ok(matches) => Ok(from_matches(&matches)),
         Err(error) => match error.kind() {

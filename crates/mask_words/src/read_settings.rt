@@ -67,12 +67,10 @@ fn settings_from(given: &Given) -> Result<Settings, WordsError>
     ensures settings { result ≡ settings_from (shown given.now) }
     ensures well_formed { IfOk result IsWellFormed }
 {
-    let Some(task) = Task::named(given.task) else {
-        return Err(WordsError::Usage(UsageKind::Task));
-    };
-    let Some(t) = number_between(given.argument, least_order(task), greatest_order(task)) else {
-        return Err(WordsError::Usage(UsageKind::Argument));
-    };
+    let task = Task::named(given.task).ok_or(WordsError::Usage(UsageKind::Task))?;
+    let t = number_between(given.argument, least_order(task), greatest_order(task)).ok_or(
+        WordsError::Usage(UsageKind::Argument),
+    )?;
     let size = value(SIZE, given.size)?;
     let workers = value(WORKERS, given.workers)?;
     let block = value(BLOCK, given.block)?;
@@ -102,11 +100,6 @@ pub fn settings(alloc: Global, words: &[String]) -> Result<Settings, WordsError>
     ensures settings { AgreesWith (settings_of (drop 1 (map string_bytes words.now))) result }
     ensures well_formed { IfOk result IsWellFormed }
 {
-    let Ok(read) = read(alloc, words) else {
-        return Err(WordsError::OutOfMemory);
-    };
-    let Some(given) = read else {
-        return Err(WordsError::Usage(UsageKind::Words));
-    };
+    let given = read(alloc, words)?.ok_or(WordsError::Usage(UsageKind::Words))?;
     settings_from(&given)
 }

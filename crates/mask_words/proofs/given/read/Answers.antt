@@ -14,14 +14,14 @@ some_fault : (kinds : Kinds) (b : Bool) → (kinds ≡ [] → ⊥) → is_none k
 some_fault [] b h e = absurd (h refl)
 some_fault (k ∷ ks) b h e = sym e
 
-pub returns-in-Ok-try_get_matches_from : goal.returns-in-Ok-try_get_matches_from
-returns-in-Ok-try_get_matches_from c =
+pub returns-in-Ok : goal.returns-in-Ok
+returns-in-Ok c =
     let words = map string_bytes c.args.words.now in
     let xs = drop 1 words in
     let plain : list_any is_lone xs ≡ false = sym c.has_lone.ensures ∙ c.if-has_lone.false in
     let clean = clean_words c.args.words.now plain in
-    let fine : fault_of mask_command words ≡ [] = ap (λ app. fault_of app words) (sym c.in-Ok.ensures.app) ∙ c.in-Ok-try_get_matches_from.ensures.kinds (ap is_simple_and_free c.in-Ok.ensures.app ∙ simple) in
-    let rows = (c.in-Ok-try_get_matches_from.ensures.matches (ap is_simple c.in-Ok.ensures.app ∙ simple_too)).0 ∙ ap (λ app. matches_of app words) c.in-Ok.ensures.app in
+    let fine : fault_of mask_command words ≡ [] = ap (λ app. fault_of app words) (sym c.in_ok-command.ensures.app) ∙ c.in-Ok.ensures.kinds (ap is_simple_and_free c.in_ok-command.ensures.app ∙ simple) in
+    let rows = (c.in-Ok.ensures.matches (ap is_simple c.in_ok-command.ensures.app ∙ simple_too)).0 ∙ ap (λ app. matches_of app words) c.in_ok-command.ensures.app in
     let taken = line_taken xs plain (sym (accepted words clean) ∙ ap is_none fine) in
     c.from_matches.ensures taken.0 (subst (Holds taken.0) (sym rows) (matched words clean fine taken.0 taken.1)) taken.2 ∙ sym taken.3
 
@@ -30,5 +30,5 @@ returns c =
     let words = map string_bytes c.args.words.now in
     let plain : list_any is_lone (drop 1 words) ≡ false = sym c.has_lone.ensures ∙ c.if-has_lone.false in
     let clean = clean_words c.args.words.now plain in
-    let faulty : fault_of mask_command words ≡ [] → ⊥ = λ none. some_kind _ c.in-Err.error (c.in-Err.ensures.kinds (ap is_simple_and_free c.in-Ok.ensures.app ∙ simple)) (search rules) (ap (λ app. fault_of app words) c.in-Ok.ensures.app ∙ none) in
+    let faulty : fault_of mask_command words ≡ [] → ⊥ = λ none. some_kind _ c.in-Err.error (c.in-Err.ensures.kinds (ap is_simple_and_free c.in_ok-command.ensures.app ∙ simple)) (search rules) (ap (λ app. fault_of app words) c.in_ok-command.ensures.app ∙ none) in
     sym (line_refused (drop 1 words) plain (some_fault _ _ faulty (accepted words clean)))
