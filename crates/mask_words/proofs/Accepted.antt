@@ -9,7 +9,8 @@ use Rattle.clap.specs.Faults.{settle_fault, walk_fault, fault_of, defaults_fault
 use Rattle.clap.specs.Kinds.{or_else}
 use Rattle.mask_words.specs.Command.{mask_command}
 use Rattle.std.proofs.lemmas.Bool.Decides.{Decides-eqb}
-use Rattle.mask_words.specs.Reading.{Holds, positionals, names_given, given_text, has_flag, all_differ, is_complete, taken_items, CommandItem, Text, items_from}
+use Rattle.mask_words.specs.Reading.{positionals, names_given, given_text, has_flag, all_differ, CommandItem, Text, items_from}
+use Rattle.mask_words.specs.Taken.{Holds, is_complete, taken_items}
 use Rattle.std.specs.Option.{option_or, is_some, option_map_or}
 use Rattle.std.proofs.lemmas.List.Folds.{find-append}
 use Rattle.clap.specs.declared.parser.matches.ValueSource.TheVariants.{DefaultValue}

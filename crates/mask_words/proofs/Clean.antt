@@ -4,7 +4,8 @@ use Rattle.std.specs.Prelude.{option_and_then, is_some}
 use Rattle.std.specs.List.{list_any, All}
 use Rattle.std.proofs.lemmas.Str.{IsUtf8-string_bytes}
 use Rattle.std.proofs.lemmas.List.Elements.{All-cons, All-nil}
-use Rattle.mask_words.specs.Reading.{Text, CommandItem, CommandLine, is_lone, items_from, taken_items, is_complete, command_line, command_line_of, two_words, positionals, names_given, all_differ}
+use Rattle.mask_words.specs.Reading.{Text, CommandItem, CommandLine, is_lone, items_from, command_line, command_line_of, two_words, positionals, names_given, all_differ}
+use Rattle.mask_words.specs.Taken.{is_complete, taken_items}
 use Rattle.mask_words.proofs.Walk.{IsClean}
 
 module _ {Z : Type 0} where

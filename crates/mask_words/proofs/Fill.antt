@@ -4,7 +4,8 @@ use Rattle.std.specs.Prelude.{slice_get}
 use Rattle.std.proofs.lemmas.Bool.Decides.{Decides-eqb}
 use Rattle.mask_words.proofs.Rows.{both_true}
 use Rattle.mask_words.proofs.Walk.{none_of_some}
-use Rattle.mask_words.specs.Reading.{Text, CommandItem, CommandLine, two_words, command_line_of, positionals, names_given, given_text, has_flag, all_differ, is_complete}
+use Rattle.mask_words.specs.Reading.{Text, CommandItem, CommandLine, two_words, command_line_of, positionals, names_given, given_text, has_flag, all_differ}
+use Rattle.mask_words.specs.Taken.{is_complete}
 
 some_same : {A : Type 0} (a b : A) → Some a ≡ Some b → a ≡ b
 some_same a b e = cc

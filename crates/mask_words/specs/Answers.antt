@@ -1,10 +1,16 @@
--- What holds of the settings that a command line gives.
-use Rattle.std.specs.Prelude.{◌≡◌, ◌≤◌, ◌+◌, true, false}
+-- What holds of each answer to a command line, and of the settings that one gives.
+use Rattle.std.specs.Prelude.{◌≡◌, ◌≢◌, ◌≤◌, ◌+◌, true, false, Result, Ok, Err, MatchResult}
 use Rattle.gadget_maker.specs.Limits.{least_demo_shares, most_demo_shares}
 use Rattle.mask_terms.specs.Tasks.{is_demo, leaks}
 use Rattle.mask_words.specs.Options.{least_block, least_workers, most_order, most_workers}
 use Rattle.mask_words.specs.Settings.{greatest_order}
 use Rattle.mask_words.specs.declared.answer.Settings.{Settings}
+use Rattle.mask_words.specs.declared.answer.WordsError.{WordsError}
+use Rattle.mask_words.specs.declared.answer.WordsError.TheVariants.{OutOfMemory}
+
+-- The answer is what is said, but that memory may have run out whatever is said.
+abbrev pub AgreesWith : Result Settings WordsError → Result Settings WordsError → Type 0
+AgreesWith said answer = MatchResult answer (λ s. said ≡ Ok s) (λ e. e ≢ OutOfMemory → said ≡ Err e)
 
 -- a demonstration is of as many shares as one may have
 abbrev pub HasDemoShares : Settings → Type 0

@@ -6,3 +6,4 @@ pub mod Settings
 pub mod Answers
 pub mod Command
 pub mod Shown
+pub mod Taken

@@ -1,5 +1,6 @@
 -- Numbers that a command line gives.
-use Rattle.std.specs.Prelude.{ℕ, ◌&&◌, Bool, List, length, Option, Some, None, if◌then◌else◌, nat_lt, nat_le, not, option_and_then}
+use Rattle.std.specs.Prelude.{ℕ, ◌&&◌, Bool, List, length, Option, Some, None, if◌then◌else◌, nat_lt, nat_le, not}
+use Rattle.std.specs.Prelude.{option_and_then}
 use Rattle.std.specs.Str.{all_ascii_digits}
 use Rattle.std.specs.Str.Parse.{digits_value}
 

@@ -1,11 +1,10 @@
 -- What the words of a command line say, word by word.
-use Rattle.std.specs.Prelude.{◌≡◌, ◌==◌, ◌&&◌, Bool, true, false, not, List, [], ◌∷◌, map, length, Option, Some}
-use Rattle.std.specs.Prelude.{None, codes, if◌then◌else◌, option_map, option_and_then, slice_get}
+use Rattle.std.specs.Prelude.{◌==◌, ◌&&◌, Bool, true, false, not, List, [], ◌∷◌, map, Option, Some, None}
+use Rattle.std.specs.Prelude.{codes, if◌then◌else◌, option_map, option_and_then}
 use Rattle.std.specs.List.{list_any}
 use Rattle.std.specs.Str.{bytes_eq}
 use Rattle.clap.specs.Lexer.{long_of}
 pub use Rattle.clap.specs.Walk.{Text}
-use Rattle.clap.specs.Walk.{Row, first_of, one_of}
 use Rattle.mask_terms.specs.Options.{option_name}
 use Rattle.mask_terms.specs.declared.opt.Opt.TheVariants.{Size, Workers, Block, Budget, FirstWords, Wires}
 use Rattle.mask_words.specs.Options.{flag_name, option_names}
@@ -87,26 +86,11 @@ abbrev pub all_differ : List Text → Bool
 all_differ [] = true
 all_differ (name ∷ names) = not (list_any (bytes_eq name) names) && all_differ names
 
--- There are two positional words, and nothing is given twice.
-abbrev pub is_complete : List CommandItem → Bool
-is_complete items = (length (positionals items) == 2) && all_differ (names_given items)
-
--- the items of a command line that is taken
-abbrev pub taken_items : List Text → Option (List CommandItem)
-taken_items words = option_and_then (λ items. if is_complete items then Some items else None) (items_from None words)
-
 -- an empty word or a hyphen alone
 abbrev pub is_lone : Text → Bool
 is_lone [] = true
 is_lone (c ∷ []) = c == 45
 is_lone (c ∷ d ∷ rest) = false
-
--- What clap kept, its rows, holds what the items say.
-pub record Holds (items : List CommandItem) (rows : List Row) : Type 0 where
-  pub task : first_of (codes "TASK") rows ≡ slice_get (positionals items) 0
-  pub argument : first_of (codes "ARG") rows ≡ slice_get (positionals items) 1
-  pub options : (q : Text) → is_option q ≡ true → first_of q rows ≡ given_text q items
-  pub flagged : one_of flag_name rows ≡ Some (if has_flag items then codes "true" else codes "false")
 
 -- the parts of a command line: the task's word and its argument, the options' texts, and whether the flag is there
 pub record CommandLine : Type 0 where

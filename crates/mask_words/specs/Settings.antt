@@ -1,6 +1,6 @@
 -- The settings that a command line gives, or the first check that fails.
-use Rattle.std.specs.Prelude.{ℕ, ◌-◌, ◌≡◌, ◌≢◌, ◌&&◌, ◌||◌, not, if◌then◌else◌, List}
-use Rattle.std.specs.Prelude.{Option, Some, None, is_some, Result, Ok, Err, MatchResult}
+use Rattle.std.specs.Prelude.{ℕ, ◌-◌, ◌&&◌, ◌||◌, not, if◌then◌else◌, List}
+use Rattle.std.specs.Prelude.{Option, Some, None, is_some, Result, Ok, Err}
 use Rattle.gadget_maker.specs.Limits.{least_demo_shares, most_demo_shares}
 use Rattle.mask_terms.specs.Tasks.{is_demo, leaks, task_named}
 use Rattle.mask_terms.specs.Wires.{wires_named}
@@ -15,7 +15,7 @@ use Rattle.mask_words.specs.Options.{most_order, most_leaking_order}
 use Rattle.mask_words.specs.Reading.{CommandLine, command_line}
 use Rattle.mask_words.specs.declared.answer.Settings.{Settings}
 use Rattle.mask_words.specs.declared.answer.WordsError.{WordsError}
-use Rattle.mask_words.specs.declared.answer.WordsError.TheVariants.{Usage, SizeNotUsed, OutOfMemory}
+use Rattle.mask_words.specs.declared.answer.WordsError.TheVariants.{Usage, SizeNotUsed}
 use Rattle.mask_words.specs.declared.options.NumberOption.{NumberOption}
 
 -- what is there, or this error
@@ -90,7 +90,3 @@ settings_from l =
 -- what the words after the program's name give
 abbrev pub settings_of : List (List ℕ) → Result Settings WordsError
 settings_of words = and_then (or_error (command_line words) (Usage kind.Words)) settings_from
-
--- The answer is what is said, but that memory may have run out whatever is said.
-abbrev pub AgreesWith : Result Settings WordsError → Result Settings WordsError → Type 0
-AgreesWith said answer = MatchResult answer (λ s. said ≡ Ok s) (λ e. e ≢ OutOfMemory → said ≡ Err e)

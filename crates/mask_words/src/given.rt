@@ -3,8 +3,9 @@
 ghost use Rattle.std.specs.Prelude.{◌≡◌, IfOk, true, List, map, drop, option_map, string_bytes};
 ghost use Rattle.std.specs.List.{list_any};
 ghost use Rattle.clap.specs.Words.{found_of, rows_of};
-ghost use Rattle.mask_words.specs.Reading.{Holds, CommandItem, is_complete, is_lone, command_line, command_line_of};
+ghost use Rattle.mask_words.specs.Reading.{CommandItem, is_lone, command_line, command_line_of};
 ghost use Rattle.mask_words.specs.Shown.{shown};
+ghost use Rattle.mask_words.specs.Taken.{Holds, is_complete};
 
 use crate::command::mask_command;
 use crate::names;

@@ -1,9 +1,9 @@
 //! From the words of a command line to settings.
 
 ghost use Rattle.std.specs.Prelude.{◌≡◌, ◌≤◌, IfOk, map, drop, option_map, string_bytes};
-ghost use Rattle.mask_words.specs.Answers.{IsWellFormed};
-ghost use Rattle.mask_words.specs.Settings.{AgreesWith, least_order, greatest_order, size_of};
-ghost use Rattle.mask_words.specs.Settings.{settings_from, settings_of, wires_by};
+ghost use Rattle.mask_words.specs.Answers.{AgreesWith, IsWellFormed};
+ghost use Rattle.mask_words.specs.Settings.{least_order, greatest_order, size_of, settings_from};
+ghost use Rattle.mask_words.specs.Settings.{settings_of, wires_by};
 ghost use Rattle.mask_words.specs.Shown.{shown};
 
 use crate::answer::{Settings, WordsError};

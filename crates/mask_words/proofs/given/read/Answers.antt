@@ -2,7 +2,8 @@ use Rattle.std.proofs.Common.{rules, ap, refl, sym, subst, ◌≡◌, ◌∙◌,
 use Rattle.std.specs.List.{list_any}
 use Rattle.clap.specs.Words.{Kinds, fault_of, is_simple_and_free, is_simple, matches_of}
 use Rattle.mask_words.specs.Command.{mask_command}
-use Rattle.mask_words.specs.Reading.{Holds, is_lone}
+use Rattle.mask_words.specs.Reading.{is_lone}
+use Rattle.mask_words.specs.Taken.{Holds}
 use Rattle.mask_words.proofs.Cases.{simple, simple_too}
 use Rattle.mask_words.proofs.Refused.{some_kind}
 use Rattle.mask_words.proofs.Accepted.{accepted, matched}
