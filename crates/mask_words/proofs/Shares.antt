@@ -9,6 +9,7 @@ use Rattle.mask_terms.specs.declared.task.Task.TheVariants as tasks
 use Rattle.mask_words.specs.Numbers.{number_between, short_number}
 use Rattle.mask_terms.specs.declared.usage_kind.UsageKind.TheVariants as kind
 use Rattle.mask_terms.specs.declared.wires.Wires.{Wires}
+use Rattle.mask_words.proofs.Rows.{both_true}
 use Rattle.mask_words.specs.Answers.{HasDemoShares}
 use Rattle.mask_words.specs.Options as options
 use Rattle.mask_words.specs.Reading.{CommandLine, command_line}
@@ -25,15 +26,10 @@ or_error-ok : {A : Type 0} (o : Option A) (error : WordsError) (a : A) → or_er
 or_error-ok (Some x) error a e = cc
 or_error-ok None error a e = absurd (cc)
 
-both : (a b : Bool) → (a && b) ≡ true → (a ≡ true) × (b ≡ true)
-both true true e = (refl, refl)
-both true false e = absurd (cc)
-both false b e = absurd (cc)
-
 in_range : (least most n m : ℕ) (test : Bool) → (nat_le least n && nat_le n most) ≡ test → (if test then Some n else None) ≡ Some m → (least ≤ m) × (m ≤ most)
 in_range least most n m true e h =
     let is : n ≡ m = cc in
-    let two = both (nat_le least n) (nat_le n most) e in
+    let two = both_true (nat_le least n) (nat_le n most) e in
     subst (λ (k : ℕ). (least ≤ k) × (k ≤ most)) is (leb-true least n two.0, leb-true n most two.1)
 in_range least most n m false e h = absurd (cc)
 

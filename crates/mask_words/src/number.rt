@@ -29,9 +29,5 @@ pub(crate) fn number_between(text: &str, least: u64, most: u64) -> Option<u64>
     ensures bounds { IfSome result (λ n. (least ≤ n) × (n ≤ most)) }
 {
     let number = short_number(text)?;
-    if least <= number && number <= most {
-        Some(number)
-    } else {
-        None
-    }
+    (least..=most).contains(&number).then_some(number)
 }
