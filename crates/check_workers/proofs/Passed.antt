@@ -1,15 +1,16 @@
 -- A pass on its way through a range of ranks.
-use Rattle.std.proofs.Common.{◌≡◌, ℕ, suc, ◌+◌, ◌<◌, ◌≤◌, Bool, true, false, List, length, ap, sym, ◌∙◌, inl, inr, arith, subst, add-one}
+use Rattle.std.proofs.Common.{◌≡◌, ◌↔◌, ◌⊎◌, ℕ, suc, ◌+◌, ◌<◌, ◌≤◌, Bool, true, false, List, length, ap, sym, ◌∙◌, inl, inr, arith, subst, add-one}
 use Rattle.std.specs.List.{slice_get}
 use Rattle.std.proofs.lemmas.Bool.{cases_Bool, cases_lt}
 use Rattle.tuple_model.specs.Tuples.{IsSubset, HasRank, tuples}
-use Rattle.tuple_model.specs.Antichains.{Adds}
+use Rattle.tuple_model.specs.Antichains.{Adds, Covers}
 use Rattle.tuple_model.proofs.Antichains.{Covers-added}
-use Rattle.check_workers.specs.Passes.{CoversRange, CoversNext}
+use Rattle.check_workers.specs.Passes.{HasRankedSubset, CoversNext}
 
 -- the list covers what it did before, and what the failing tuples cover from a rank on to before another
 abbrev pub CoversBefore : (List ℕ → Type 0) → ℕ → ℕ → ℕ → ℕ → List (List ℕ) → List (List ℕ) → Type 0
-CoversBefore Fails items size from rank before after = CoversRange Fails items size (record { from = from; to = rank }) before after
+CoversBefore Fails items size from rank before after =
+    (t : List ℕ) → Covers after t ↔ (Covers before t ⊎ HasRankedSubset Fails items size (λ r. (from ≤ r) × (r < rank)) t)
 
 -- the pass is at the tuple with this rank, where there is one left
 abbrev pub IsAtRank : ℕ → ℕ → ℕ → ℕ → List ℕ → Type 0

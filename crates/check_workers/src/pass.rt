@@ -21,7 +21,6 @@ pub fn cover_range<Q: Query, L: Ledger>(
     list: &mut Antichain,
 ) -> Result<(), OutOfMemory>
     requires scratch { Q.Fits query.now scratch.old }
-    requires rises { range.from ≤ range.to }
     requires ranks { range.to ≤ length (tuples (Q.Question.items query.now) (Q.Question.size query.now)) }
     ensures scratch { Q.Fits query.now scratch.new }
     ensures covers { OnOk result (CoversRange (Q.Question.Fails query.now) (Q.Question.items query.now)
@@ -29,9 +28,6 @@ pub fn cover_range<Q: Query, L: Ledger>(
     ensures antichain { IsAntichain list.old → IsAntichain list.new }
     ensures steps { steps.new ≤ steps.old + (range.to - range.from) }
 {
-    if range.from == range.to {
-        return Ok(());
-    }
     let items = query.items();
     let size = query.size();
     let mut t = unrank(items, size, range.from);

@@ -7,11 +7,12 @@ ghost use Rattle.tuple_model.specs.Tuples.{IsTuple, HasRank, rising, tuples};
 use crate::counts::{count, count_of_fewer, count_of_size};
 use crate::tuples::Tuple;
 
-/// The ranks from `from` to before `to`.
+/// The ranks from `from` to before `to`, of which there is at least one.
 #[derive(Clone, Copy, Debug, PartialEq, Eq, Drop)]
 pub struct Range {
     pub from: u64,
     pub to: u64,
+    ghost rises: { from < to },
 }
 
 /// The tuple with a rank, of those of at most `size` of the items numbered below `items`. It undoes `rank`, since a

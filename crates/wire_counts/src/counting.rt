@@ -86,7 +86,8 @@ fn count_sets<R: Threads + Sync>(
 
 // The ranks of the block with this number, of which the last may have fewer.
 fn block_at(number: u64, block: u64, ranks: u64) -> Range
-    requires { number * block < ranks }
+    requires some { 0 < block }
+    requires begins { number * block < ranks }
     ensures from { result.from ≡ number * block }
     ensures to { result.to ≡ number * block + min block (ranks - number * block) }
 {
@@ -100,7 +101,6 @@ fn block_at(number: u64, block: u64, ranks: u64) -> Range
 // The sets of wires whose items the list covers, for tuples with these ranks.
 fn count_range(binomials: &[Binomials], list: &Antichain, size: u8, range: Range) -> Numbers
     requires limits { IsWithinLimits binomials.now size }
-    requires some { range.from < range.to }
     requires ranks { range.to ≤ length (tuples (length binomials.now) size) }
     ensures { AreCounted (Covers list.now) binomials.now size range.from range.to result }
 {

@@ -39,7 +39,7 @@ returns c =
     let list = c.args.list.now in
     let weights = c.args.binomials.now in
     let from = c.args.range.from in
-    let some = c.requires.some in
+    let some = c.args.range.rises in
     let ended = c.loop-rank.auto._rank-end in
     AreCounted-end list weights c.args.size from c.args.range.to c.loop-rank.numbers (omega arith)
     (subst (λ rank. CountsFrom list weights c.args.size from rank c.loop-rank.numbers) (omega (arith, ended (omega arith))) c.loop-rank.invariant.counted)
