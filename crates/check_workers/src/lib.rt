@@ -6,5 +6,4 @@ mod pass;
 mod workers;
 
 pub use gate::{Gate, OpenGate};
-pub use pass::cover_range;
 pub use workers::minimal;

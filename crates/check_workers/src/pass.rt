@@ -11,9 +11,9 @@ use mask_bytes::OutOfMemory;
 use std::sync::ledger::Ledger;
 use tuple_order::{Range, Steps, Tuple, next, unrank};
 
-/// Adds to a list the failing tuples with these ranks that it doesn't cover. So a list of several ranges covers what
-/// the failing tuples of all of them cover. A tuple that the list covers already isn't judged.
-pub fn cover_range<Q: Query, L: Ledger>(
+/// Goes over the tuples with these ranks. The list then covers what it did before and what the failing ones of them
+/// cover, and nothing else; where memory is refused, what it covers isn't said. There is at most one step a rank.
+pub(crate) fn cover_range<Q: Query, L: Ledger>(
     query: &Q,
     scratch: &mut Q::Scratch,
     range: Range,
