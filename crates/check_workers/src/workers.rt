@@ -150,15 +150,11 @@ fn found_counted<Q: Query, G: Gate, L: Ledger>(
     Ok(list)
 }
 
-// The ranks of a block, of which the last may have fewer than the others.
+// The ranks of a block: those that give its number when they are divided by how many ranks a block has.
 fn range_of(blocks: Blocks, number: u64) -> Range
     requires block { number < div_ceil blocks.ranks blocks.block }
     ensures ranks { (rank : ℕ) → rank < blocks.ranks → IsInRange result rank ↔ (rank / blocks.block ≡ number) }
-    ensures within { (result.from < result.to) × (result.to ≤ blocks.ranks) }
+    ensures within { result.to ≤ blocks.ranks }
 {
-    let from = number * blocks.block;
-    Range {
-        from,
-        to: from + blocks.block.min(blocks.ranks - from),
-    }
+    Range::of_block(number, blocks.block, blocks.ranks)
 }

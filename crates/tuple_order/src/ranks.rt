@@ -1,6 +1,6 @@
-//! The rank of a tuple, and the tuple with a rank.
+//! The rank of a tuple, the tuple with a rank, and ranges of ranks.
 
-ghost use Rattle.std.specs.Prelude.{◌≡◌, ℕ, ◌+◌, ◌<◌, ◌≤◌, Some, length, slice_get};
+ghost use Rattle.std.specs.Prelude.{◌≡◌, ℕ, ◌+◌, ◌*◌, ◌-◌, ◌<◌, ◌≤◌, min, Some, length, slice_get};
 ghost use Rattle.tuple_model.specs.Limits.{most_items, most_size};
 ghost use Rattle.tuple_model.specs.Tuples.{IsTuple, HasRank, rising, tuples};
 
@@ -13,6 +13,22 @@ pub struct Range {
     pub from: u64,
     pub to: u64,
     ghost rises: { from < to },
+}
+
+impl Range {
+    /// The ranks of the block with this number, of `block` ranks each, of which the last may have fewer.
+    pub fn of_block(number: u64, block: u64, ranks: u64) -> Range
+        requires some { 0 < block }
+        requires begins { number * block < ranks }
+        ensures from { result.from ≡ number * block }
+        ensures to { result.to ≡ number * block + min block (ranks - number * block) }
+    {
+        let from = number * block;
+        Range {
+            from,
+            to: from + block.min(ranks - from),
+        }
+    }
 }
 
 /// The tuple with a rank, of those of at most `size` of the items numbered below `items`. It undoes `rank`, since a

@@ -1,5 +1,5 @@
 -- What blocks count by themselves adds up to what one walk counts.
-use Rattle.std.proofs.Common.{◌≡◌, ℕ, suc, zero, ◌+◌, ◌-◌, ◌*◌, ◌%◌, ◌^◌, ◌<◌, ◌≤◌, min, List, [], ◌∷◌, length, ap, arith, subst, mul-le-mul}
+use Rattle.std.proofs.Common.{◌≡◌, ℕ, suc, zero, ◌+◌, ◌-◌, ◌*◌, ◌%◌, ◌^◌, ◌<◌, ◌≤◌, min, List, [], ◌∷◌, length, ap, arith, subst}
 use Rattle.std.specs.Prelude.{slice_index}
 use Rattle.std.specs.List.{AllZip, range_with_len, sum_by}
 use Rattle.std.specs.Int.{div_ceil}
@@ -9,6 +9,7 @@ use Rattle.rayon.specs.Lists.{Reduces}
 use Rattle.rayon.proofs.Reducing.{Reduces-elim}
 use Rattle.tuple_model.specs.Tuples.{tuples}
 use Rattle.tuple_model.specs.Antichains.{Covers}
+use Rattle.tuple_order.proofs.Blocks.{block-begins}
 use Rattle.wire_counts.specs.Coefficients.{IsCoefficient}
 use Rattle.wire_counts.specs.Ways.{AreAdded, AreCounted, IsWithinLimits}
 use Rattle.wire_counts.proofs.Passes.{before, CountsFrom-counted, before-bounded, IsCoefficient-counted}
@@ -35,13 +36,6 @@ AreSums-reduced Zero Adds zeros adds rows sums h =
     let f = sum_by-append (λ row. slice_index row i) xs ys in
     omega arith)
     rows sums h
-
-pub block-begins : (ranks block number : ℕ) → 0 < block → number < div_ceil ranks block → number * block < ranks
-block-begins ranks block number some l =
-    let a = (div_ceil_times ranks block some).1 in
-    let b : suc number * block ≤ div_ceil ranks block * block = mul-le-mul (let e : suc number ≤ div_ceil ranks block = omega arith in e) (let e : block ≤ block = omega arith in e) in
-    let c : suc number * block ≡ number * block + block = grind arith in
-    omega arith
 
 module _ (list : List (List ℕ)) (weights : List ℕ) (size block ranks : ℕ) where
   abbrev pub IsBlock : ℕ → List ℕ → Type 0

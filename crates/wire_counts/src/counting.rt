@@ -71,7 +71,7 @@ fn count_sets<R: Threads + Sync>(
                     × (ranks ≡ length (tuples (length binomials.now) size)) }
                 ensures { AreCounted (Covers list.entry.now) binomials.entry.now size (number * block)
                     (number * block + min block (ranks - number * block)) result }
-            { count_range(binomials, list, size, block_at(number, block, ranks)) },
+            { count_range(binomials, list, size, Range::of_block(number, block, ranks)) },
         )
         .reduce(
             rt,
@@ -82,20 +82,6 @@ fn count_sets<R: Threads + Sync>(
                 ensures { AreAdded left right result }
             { added(left, right) },
         )
-}
-
-// The ranks of the block with this number, of which the last may have fewer.
-fn block_at(number: u64, block: u64, ranks: u64) -> Range
-    requires some { 0 < block }
-    requires begins { number * block < ranks }
-    ensures from { result.from ≡ number * block }
-    ensures to { result.to ≡ number * block + min block (ranks - number * block) }
-{
-    let from = number * block;
-    Range {
-        from,
-        to: from + block.min(ranks - from),
-    }
 }
 
 // The sets of wires whose items the list covers, for tuples with these ranks.

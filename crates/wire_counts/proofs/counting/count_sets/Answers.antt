@@ -3,8 +3,9 @@ use Rattle.std.specs.List.{range_with_len}
 use Rattle.rayon.specs.Numbers.{nat_range}
 use Rattle.rayon.proofs.ToStd.{nat_range-All}
 use Rattle.tuple_model.specs.Tuples.{tuples}
+use Rattle.tuple_order.proofs.Blocks.{block-begins}
 use Rattle.wire_counts.specs.Ways.{IsWithinLimits}
-use Rattle.wire_counts.proofs.Blocks.{block-begins, IsCoefficient-blocks}
+use Rattle.wire_counts.proofs.Blocks.{IsCoefficient-blocks}
 use Rattle.wire_counts.proofs.counting.count_sets.Goals as goal
 
 pub reduce-requires-clause-ready : goal.reduce-requires-clause-ready

@@ -4,5 +4,5 @@ use Rattle.wire_counts.proofs.counting.fn.count_sets.map.Goals as goal
 pub count_range-requires : goal.count_range-requires
 count_range-requires c = record {
   limits = c.requires.0;
-  ranks = omega (arith, c.requires, c.block_at.ensures);
+  ranks = omega (arith, c.requires, c.of_block.ensures);
 }
