@@ -1,13 +1,13 @@
 //! Which codes of two lists stay where the lists are merged.
 
-ghost use Rattle.std.specs.Prelude.{◌≡◌, ◌↔◌, ◌<◌, ◌≤◌, ◌*◌, ◌+◌, ◌^◌, ℕ, All, Contains, IsTrue, OnOk, length, take};
+ghost use Rattle.std.specs.Prelude.{◌↔◌, ◌<◌, ◌≤◌, ℕ, All, Contains, IsTrue, OnOk, length, take};
 ghost use Rattle.tuple_order.specs.Codes.{size_of_code};
 ghost use Rattle.antichain_list.specs.Held.{AreCodes, AreMarked, Gains, IsCode, NoneWithin};
 
 use crate::codes::{first_subset, place_of, tuple_of};
 use crate::marks::Marks;
 use mask_bytes::OutOfMemory;
-use tuple_order::size_in;
+use tuple_order::{lowest_code, size_in};
 
 /// Adds the codes in `list` of the tuples of which no tuple of `others` is a proper subset. Of `others` only those are
 /// looked up that are smaller than the greatest tuple of `list`; where there are none, `list` is copied.
@@ -80,13 +80,5 @@ fn smaller_count(list: &[u64], other: &[u64]) -> usize
     if other.is_empty() {
         return 0;
     }
-    place_of(list, lowest_of(size_in(other[other.len() - 1])))
-}
-
-// No code of a tuple of this size is lower, and that of each smaller tuple is.
-fn lowest_of(size: usize) -> u64
-    requires { size < 256 }
-    ensures { result ≡ 2 ^ 62 + size * 2 ^ 54 }
-{
-    (1 << 62) + ((size as u64) << 54)
+    place_of(list, lowest_code(size_in(other[other.len() - 1])))
 }

@@ -31,7 +31,7 @@ impl Tuple {
         ensures tuple { IsTuple most_items most_size self.now }
     {
         let items = self.items();
-        let mut code = EMPTY + items.len() as u64 * ONE_MORE;
+        let mut code = lowest_code(items.len());
         let mut worth = 1 << FIRST_DIGIT;
         for item in items {
             code += (u64::from(*item) + 1) * worth;
@@ -88,6 +88,14 @@ pub fn size_in(code: u64) -> usize
     ensures { result ≡ size_of_code code }
 {
     (code / ONE_MORE % 256) as usize
+}
+
+/// The least number that a code of a tuple of this size may have; the codes of all smaller tuples are below it.
+pub fn lowest_code(size: usize) -> u64
+    requires { size < 256 }
+    ensures { result ≡ 2 ^ 62 + size * 2 ^ 54 }
+{
+    EMPTY + size as u64 * ONE_MORE
 }
 
 // After the codes of the first subsets come those of the same subsets with one item more.

@@ -9,7 +9,7 @@ mod steps;
 mod tuples;
 
 pub use counts::count;
-pub use encoding::{code_law, size_in};
+pub use encoding::{code_law, lowest_code, size_in};
 pub use ranks::{Range, rank, unrank};
 pub use step_count::Steps;
 pub use tuples::{MOST_ITEMS, MOST_SIZE, Tuple, is_subset, next, subset};

@@ -9,4 +9,4 @@ place_of-requires c = IsNonDecreasing-from_codes c.args.list.now c.requires.list
 
 pub returns-clause-smaller : goal.returns-clause-smaller
 returns-clause-smaller c =
-    smaller_first c.args.list.now c.args.other.now c.place_of.result c.requires.list c.requires.other (rw (c.lowest_of.ensures, c.size_in.ensures) at c.place_of.ensures.others)
+    smaller_first c.args.list.now c.args.other.now c.place_of.result c.requires.list c.requires.other (rw (c.lowest_code.ensures, c.size_in.ensures) at c.place_of.ensures.others)
