@@ -1,7 +1,7 @@
 -- A sum of monomials in the order of their keys: what it keeps to, and that one monomial more leaves it so.
 use Rattle.std.proofs.Common.{◌≡◌, ℕ, ◌+◌, ◌-◌, ◌<◌, ◌≤◌, Bool, true, false, cond, eqb, List, [], ◌∷◌, ◌++◌, length, take, get_or, refl, ap, sym, ◌∙◌, subst, inl, inr, arith, Some, None, Option}
 use Rattle.std.specs.Prelude.{slice_get}
-use Rattle.std.specs.List.{All, AllPairs, AllWithin}
+use Rattle.std.specs.List.{All, AllWithin}
 use Rattle.std.specs.List.Sorted.{IsSorted}
 use Rattle.std.specs.Ordering.{nat_cmp, is_lt}
 use Rattle.std.proofs.lemmas.Bool.{cases_eq, false≢true, true≢false}
@@ -9,7 +9,7 @@ use Rattle.std.proofs.lemmas.Bool.Decides.{eqb_tells}
 use Rattle.std.proofs.lemmas.Cmp.{nat_cmp_total}
 use Rattle.std.proofs.lemmas.Map.Keys.{ge_from_not_lt}
 use Rattle.std.proofs.lemmas.Option.{slice_get_within, slice_get-get_or, get_or_from_slice_get}
-use Rattle.std.proofs.lemmas.List.{take_more, length-take, get_or-take, get_or_read}
+use Rattle.std.proofs.lemmas.List.{take_more, get_or_read}
 use Rattle.std.proofs.lemmas.List.Elements.{All-take, All-push, All-weaker}
 use Rattle.std.proofs.lemmas.List.MinMax.{ranks_by}
 use Rattle.std.proofs.lemmas.List.Quantifiers.{all_pairs_push}
@@ -17,6 +17,7 @@ use Rattle.std.proofs.lemmas.List.Sorted.{sorted_far}
 use Rattle.std.proofs.lemmas.List.Sums.{sum_by_push, sum_by_more}
 use Rattle.std.proofs.Math.Seq.{take-length}
 use Rattle.list_laws.proofs.Counts.{one_if}
+use Rattle.list_laws.proofs.Members.{AllPairs-take}
 use Rattle.anf.specs.Polynomials.{set_of}
 use Rattle.anf.specs.Keys.{key_of, HaveKey}
 use Rattle.anf.specs.Reduction.{is_same, ends_in, with_monomial, HaveRisingKeys, times, HaveSameParities}
@@ -47,14 +48,6 @@ split_last xs w e =
     ∙ ap (λ (k : ℕ). take k xs) (sym whole)
     ∙ take_more xs n w l
     ∙ ap (λ (v : List ℕ). take n xs ++ v ∷ []) (get_or_from_slice_get xs n w w e)
-
--- what holds of each pair of a list holds of each pair of its front
-AllPairs-take : {X : Type 0} (R : X → X → Type 0) (n : ℕ) (xs : List X) → AllPairs R xs → AllPairs R (take n xs)
-AllPairs-take R n xs a i j d l m =
-    let e = length-take n xs in
-    let at_i = get_or-take n xs i d (omega arith) in
-    let at_j = get_or-take n xs j d (omega arith) in
-    subst (λ x. R x (get_or (take n xs) j d)) (sym at_i) (subst (R (get_or xs i d)) (sym at_j) (a i j d l (omega arith)))
 
 -- the next monomial cancels the last one
 popped : (all kept : List (List ℕ)) (i : ℕ) (x w : List ℕ) → i < length all → x ≡ get_or all i x → slice_get kept (length kept - 1) ≡ Some w →

@@ -4,7 +4,7 @@ use Rattle.std.specs.List.{All, AllPairs}
 use Rattle.std.proofs.lemmas.Bool.{cases_lt, eqb-true, eq-eqb}
 use Rattle.std.proofs.lemmas.List.{take-append-drop, take_more, take_all, get_or_default, get_or-take, length-take}
 use Rattle.std.proofs.lemmas.List.Elements.{All-contains, All-contains_itself, All-map, All-take, All-weaker, Contains-append_left, Contains-append_right, Contains-append_cases, Contains-push, Contains-push_cases}
-use Rattle.list_laws.proofs.Members.{Contains-map, Contains-from_map, AllPairs-append_left}
+use Rattle.list_laws.proofs.Members.{Contains-map, Contains-from_map, AllPairs-take}
 use Rattle.list_laws.proofs.Once.{Contains-nil}
 use Rattle.tuple_model.specs.Limits.{most_items, most_size}
 use Rattle.tuple_model.specs.Tuples.{IsTuple, IsSubset}
@@ -79,11 +79,6 @@ smaller_first codes others place g h from m n k l less =
       | inl before ↦ (k.0, let w = k.1 in omega (arith, length-take place codes), get_or-take place codes k.0 m before ∙ k.2)
       | inr after ↦ let b = from k.0 after k.1 in absurd (omega arith)
     ]
-
-AllPairs-take : {X : Type 0} (R : X → X → Type 0) (n : ℕ) (xs : List X) → AllPairs R xs → AllPairs R (take n xs)
-AllPairs-take {X} R n xs o =
-    let P : List X → Type 0 = AllPairs R in
-    AllPairs-append_left R (take n xs) (drop n xs) (subst P (sym (take-append-drop n xs)) o)
 
 member-of_take : {X : Type 0} (n : ℕ) (xs : List X) (x : X) → Contains (take n xs) x → Contains xs x
 member-of_take {X} n xs x k =

@@ -1,8 +1,8 @@
--- Members of lists, and facts of each pair of places in a list, for `∷`, `++` and `map`.
-use Rattle.std.proofs.Common.{◌≡◌, ℕ, zero, suc, ◌<◌, ◌+◌, ◌⊎◌, List, [], ◌∷◌, ◌++◌, map, length, refl, ap, ◌∙◌, subst, inl, inr, arith, Contains, get_or, length-append}
+-- Members of lists, and facts of each pair of places in a list, for `∷`, `++`, `map` and `take`.
+use Rattle.std.proofs.Common.{◌≡◌, ℕ, zero, suc, ◌<◌, ◌+◌, ◌⊎◌, List, [], ◌∷◌, ◌++◌, map, length, take, drop, refl, ap, sym, ◌∙◌, subst, inl, inr, arith, Contains, get_or, length-append}
 use Rattle.std.specs.List.{All, AllPairs}
 use Rattle.std.proofs.Math.ListN.{length-map, get_or-map}
-use Rattle.std.proofs.lemmas.List.{get_or_append_left, get_or-append-add}
+use Rattle.std.proofs.lemmas.List.{take-append-drop, get_or_append_left, get_or-append-add}
 use Rattle.std.proofs.lemmas.List.Elements.{All-append, All-map, Contains-get_or}
 use Rattle.std.proofs.lemmas.List.Kept.{AllPairs-cons}
 
@@ -69,3 +69,9 @@ AllPairs-append_right R xs ys a i j d l m =
     let n = length-append xs ys in
     subst (λ x. R x (get_or ys j d)) (get_or-append-add xs ys i d)
     (subst (R (get_or (xs ++ ys) (length xs + i) d)) (get_or-append-add xs ys j d) (a (length xs + i) (length xs + j) d (omega arith) (omega arith)))
+
+-- what holds of each pair of a list holds of each pair of its first elements
+pub AllPairs-take : {X : Type 0} (R : X → X → Type 0) (n : ℕ) (xs : List X) → AllPairs R xs → AllPairs R (take n xs)
+AllPairs-take {X} R n xs o =
+    let P : List X → Type 0 = AllPairs R in
+    AllPairs-append_left R (take n xs) (drop n xs) (subst P (sym (take-append-drop n xs)) o)
