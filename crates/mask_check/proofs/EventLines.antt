@@ -1,40 +1,27 @@
 -- The answers to the questions of events and their lines, one event after the other.
-use Rattle.std.proofs.Common.{◌≡◌, ◌∙◌, ◌≤◌, ◌+◌, ◌*◌, ◌⊎◌, inl, inr, ℕ, List, [], ◌∷◌, ◌++◌, All, map, length, take, ap, sym, subst, refl, append-nil, append_assoc, arith}
+use Rattle.std.proofs.Common.{◌≡◌, ◌∙◌, ◌≤◌, ◌+◌, ◌⊎◌, inl, inr, ℕ, List, [], ◌∷◌, ◌++◌, All, map, length, take, ap, sym, subst, refl, append-nil, append_assoc, arith}
 use Rattle.std.specs.List.{AllZip}
 use Rattle.std.proofs.lemmas.List.{map-append}
 use Rattle.std.proofs.lemmas.List.Elements.{All-head, All-tail, All-map, All-weaker}
 use Rattle.std.proofs.lemmas.Slice.Zip.{all_zipped_more}
 use Rattle.gadget_model.specs.Circuit.{Circuit}
-use Rattle.gadget_tree.specs.Gadgets.{IsGadget}
-use Rattle.mask_terms.specs.declared.wires.Wires.{Wires}
+use Rattle.wire_table.specs.CodeItems.{HasSmallWeight}
 use Rattle.wire_table.specs.Items.{Item}
-use Rattle.wire_table.specs.Uses.{wire_items}
-use Rattle.wire_table.proofs.WireItems.{weights-wires}
 use Rattle.wire_counts.specs.Coefficients.{weights_of}
 use Rattle.wire_counts.specs.Limits.{most_weight}
 use Rattle.rp_events.specs.declared.event.Event as of_code
-use Rattle.rp_events.specs.Events.{Event, event_of}
-use Rattle.rp_events.specs.Questions.{EventQuestion, leaking_items}
+use Rattle.rp_events.specs.Events.{event_of}
 use Rattle.mask_words.specs.declared.answer.Settings.{Settings}
 use Rattle.mask_check.specs.declared.answer.QuestionAnswer as code
 use Rattle.mask_check.specs.Questions.{Question, QuestionAnswer, IsAnswerTo}
 use Rattle.mask_check.specs.Report.{answer_lines, question_lines}
 use Rattle.mask_check.specs.Decisions.{answer_of, event_question, event_questions, AreAnswersTo, IsOfItems}
 
--- each item of the wires stands for few
-small_weights : (wires : Wires) (g : Circuit) → IsGadget g → All (λ weight. weight ≤ most_weight) (weights_of (wire_items wires g))
-small_weights wires g is =
-    All-map (λ weight. weight ≤ most_weight) (λ (item : Item). item.weight) (wire_items wires g)
-    (All-weaker (λ (item : Item). (1 ≤ item.weight) × (item.weight ≤ 4 * length g.variables)) (λ (item : Item). item.weight ≤ most_weight)
-    (λ item few. let most = is.few_variables in let l = few.1 in omega arith)
-    (wire_items wires g) (weights-wires wires g))
-
--- and so does each item of a query
-pub small_weights-asked : (of_items : List Item) (q : EventQuestion) → of_items ≡ leaking_items q → IsGadget q.gadget →
-    All (λ weight. weight ≤ most_weight) (weights_of of_items)
-small_weights-asked of_items q are is =
-    let P : List Item → Type 0 = λ of. All (λ weight. weight ≤ most_weight) (weights_of of) in
-    subst P (sym are) (small_weights q.wires q.gadget is)
+-- the weights of a query's items may be counted with
+pub small_weights : (of_items : List Item) → All HasSmallWeight of_items → All (λ weight. weight ≤ most_weight) (weights_of of_items)
+small_weights of_items small =
+    All-map (λ weight. weight ≤ most_weight) (λ (item : Item). item.weight) of_items
+    (All-weaker HasSmallWeight (λ (item : Item). item.weight ≤ most_weight) (λ item few. let l = few.1 in omega arith) of_items small)
 
 -- the answer to one event more
 pub AreAnswersTo-more : (s : Settings) (g : Circuit) (events : List of_code.Event) (k : ℕ) (event : of_code.Event)

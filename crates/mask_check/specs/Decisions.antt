@@ -8,7 +8,6 @@ use Rattle.mask_terms.specs.Tasks.{is_demo}
 use Rattle.wire_table.specs.Items.{Item}
 use Rattle.notions.specs.declared.notion.Notion.{Notion as NotionKind}
 use Rattle.rp_events.specs.Events.{Event}
-use Rattle.rp_events.specs.Inside.{IsSmallWhich}
 use Rattle.rp_events.specs.declared.rp.Rp.{Rp}
 use Rattle.mask_words.specs.declared.answer.Settings.{Settings}
 use Rattle.report.specs.Report.{AreAmong}
@@ -94,10 +93,6 @@ pub record IsNotionAnswer
   pub items_are : of_items ≡ items s g
   pub counted : count ≡ tuple_count s g
   pub right : IsAnswerTo s g (breaks notion s.t) (answer_of_notion failing)
-
--- the input that an event asks of is one that a gadget may have
-abbrev pub HasSmallWhich : Event → Type 0
-HasSmallWhich event = IsSmallWhich event.which
 
 -- the question of an event
 abbrev pub event_question : Settings → Event → Question

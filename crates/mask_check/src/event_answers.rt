@@ -4,11 +4,10 @@ ghost use Rattle.std.specs.Prelude.{◌≡◌, ◌++◌, All, IfOk, OnOk, map};
 ghost use Rattle.wire_table.specs.Tables.{StandsFor};
 ghost use Rattle.wire_table.specs.Items.{item_of};
 ghost use Rattle.rp_events.specs.Events.{event_of};
-ghost use Rattle.rp_events.specs.Failing.{AreOutputSets};
-ghost use Rattle.rp_events.specs.Inside.{IsSmallWhich};
+ghost use Rattle.rp_events.specs.Questions.{IsEventOf};
 ghost use Rattle.mask_check.specs.Questions.{IsAnswerTo, items};
 ghost use Rattle.mask_check.specs.Report.{answer_lines, question_lines};
-ghost use Rattle.mask_check.specs.Decisions.{answer_of, event_question, event_questions, AreAnswersTo, HasSmallWhich};
+ghost use Rattle.mask_check.specs.Decisions.{answer_of, event_question, event_questions, AreAnswersTo};
 ghost use Rattle.mask_check.specs.Decisions.{IsLeaking, IsOfItems, IsReady};
 
 use crate::answer::QuestionAnswer;
@@ -37,8 +36,7 @@ pub(crate) fn event_answers<R: Threads + Sync, G: Gate>(
     requires table { StandsFor table.now gadget.now }
     requires settings { IsReady settings.now }
     requires leaking { IsLeaking settings.now }
-    requires outputs { All (AreOutputSets gadget.now) (map event_of events.now) }
-    requires which { All HasSmallWhich (map event_of events.now) }
+    requires events { All (IsEventOf gadget.now) (map event_of events.now) }
     ensures { IfOk result (λ answers.
         AreAnswersTo settings.now gadget.now (map event_of events.now) (map answer_of answers.items)) }
 {
@@ -62,8 +60,7 @@ fn event_answer<R: Threads + Sync, G: Gate>(
     requires table { StandsFor table.now gadget.now }
     requires settings { IsReady settings.now }
     requires leaking { IsLeaking settings.now }
-    requires outputs { AreOutputSets gadget.now (event_of event.now) }
-    requires which { IsSmallWhich event.now.which }
+    requires event { IsEventOf gadget.now (event_of event.now) }
     ensures { IfOk result (λ answer.
         IsAnswerTo settings.now gadget.now (event_question settings.now (event_of event.now)) (answer_of answer)) }
 {

@@ -45,7 +45,7 @@ module _ (q : EventQuestion) (i : Inside) (seen : event_asked i ≡ q) (ready : 
         let P : ℕ → List ℕ → Type 0 = λ n others. All (λ v. v < n) others in
         let below : All (P (length g.variables)) (map (shares_in g) sets) =
         All-map (P (length g.variables)) (shares_in g) sets
-        (All-weaker (IsOutputSet g) (λ set. P (length g.variables) (shares_in g set)) (λ set is. shares_in-below g ready.gadget set is) sets ready.outputs) in
+        (All-weaker (IsOutputSet g) (λ set. P (length g.variables) (shares_in g set)) (λ set is. shares_in-below g ready.gadget set is) sets ready.event.outputs) in
         All-from_map (P (length scratch.random_rows)) numbers_held lists
         (subst (λ (n : ℕ). All (P n) (map numbers_held lists)) all_variables (subst (All (P (length g.variables))) (sym held_lists) below))
 

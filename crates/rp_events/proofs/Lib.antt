@@ -13,6 +13,6 @@ pub mod Exceeding
 pub mod OutputShares
 pub mod Inherited
 pub mod Judged
-pub mod Whiches
+pub mod GadgetEvents
 mod Examples
 mod ExamplesFailing

@@ -9,7 +9,8 @@ ghost use Rattle.wire_table.specs.Items.{item_of, variables_in, ObservesFew, Has
 ghost use Rattle.needed.specs.Others.{most_others};
 ghost use Rattle.needed.specs.ShareCounts.{shares_of};
 ghost use Rattle.rp_events.specs.Failing.{Exceeds};
-ghost use Rattle.rp_events.specs.Inside.{IsSmallWhich, AllExceed, SomeDoNotExceed};
+ghost use Rattle.rp_events.specs.Questions.{IsSmallWhich};
+ghost use Rattle.rp_events.specs.Inside.{AllExceed, SomeDoNotExceed};
 
 use needed::{ItemScratch, share_indices};
 use wire_table::{Item, Which};

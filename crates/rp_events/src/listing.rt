@@ -4,7 +4,7 @@ ghost use Rattle.std.specs.Prelude.{◌≡◌, ◌++◌, ◌≤◌, Ok, Err, Mat
 ghost use Rattle.std.specs.Prelude.{All, flat_map, length, map, replicate};
 ghost use Rattle.gadget_limits.specs.Limits.{most_outputs};
 ghost use Rattle.rp_events.specs.Events.{GivesEvents, event_of, event_with, selections};
-ghost use Rattle.rp_events.specs.Failing.{AreOutputSets};
+ghost use Rattle.rp_events.specs.Questions.{IsEventOf};
 ghost use Rattle.rp_events.specs.Choices.{IsChoice, events_by, events_from, given_of, modes_of};
 
 use crate::asked::asked_of;
@@ -26,7 +26,7 @@ pub fn events(alloc: Global, gadget: &Gadget, rp: Rp, t: u8) -> Result<Vec<Event
     ensures events { MatchResult result
         (λ events. GivesEvents rp gadget.now t (Ok (map event_of events.items)))
         (λ error. GivesEvents rp gadget.now t (Err error)) }
-    ensures outputs { IfOk result (λ events. All (AreOutputSets gadget.now) (map event_of events.items)) }
+    ensures of_gadget { IfOk result (λ events. All (IsEventOf gadget.now) (map event_of events.items)) }
 {
     // Called for its contract alone, which says what holds of every gadget.
     let _vars = gadget.vars();

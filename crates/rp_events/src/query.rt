@@ -1,14 +1,14 @@
 //! The question whether tuples of leaking wires fail for an event, and its test.
 
-ghost use Rattle.std.specs.Prelude.{◌≡◌, ◌+◌, ◌≤◌, IfOk, IsTrue, false, length, map};
+ghost use Rattle.std.specs.Prelude.{◌≡◌, ◌+◌, ◌≤◌, All, IfOk, IsTrue, false, length, map};
 ghost use Rattle.tuple_model.specs.Tuples.{IsTuple};
 ghost use Rattle.tuple_model.specs.Limits.{most_size};
 ghost use Rattle.wire_table.specs.Tables.{StandsFor};
+ghost use Rattle.wire_table.specs.CodeItems.{HasSmallWeight};
 ghost use Rattle.wire_table.specs.Items.{item_of};
 ghost use Rattle.rp_events.specs.Events.{event_of};
-ghost use Rattle.rp_events.specs.Failing.{AreOutputSets, PassesEvent};
-ghost use Rattle.rp_events.specs.Questions.{FailsAsked, leaking_items};
-ghost use Rattle.rp_events.specs.Inside.{IsSmallWhich};
+ghost use Rattle.rp_events.specs.Failing.{PassesEvent};
+ghost use Rattle.rp_events.specs.Questions.{FailsAsked, IsEventOf, leaking_items};
 
 use crate::event::Event;
 use crate::exceeds::all_exceed;
@@ -63,8 +63,7 @@ impl<'g> EventQuery<'g> {
         wires: Wires,
     ) -> Result<EventQuery<'g>, OutOfMemory>
         requires table { StandsFor table.now gadget.now }
-        requires event { AreOutputSets gadget.now (event_of event.now) }
-        requires which { IsSmallWhich event.now.which }
+        requires event { IsEventOf gadget.now (event_of event.now) }
         requires size { size ≤ most_size }
         ensures { IfOk result (λ query. query ≡ record {
           event = event_of event.now;
@@ -93,7 +92,8 @@ impl<'g> EventQuery<'g> {
 
     /// The items, in order.
     pub fn list(&self) -> &[Item]
-        ensures { map item_of result.now ≡ leaking_items self.now }
+        ensures items { map item_of result.now ≡ leaking_items self.now }
+        ensures weights { All HasSmallWeight (map item_of result.now) }
     {
         &self.list
     }

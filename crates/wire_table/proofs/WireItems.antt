@@ -13,6 +13,7 @@ use Rattle.list_laws.proofs.Once.{Contains-from_filter}
 use Rattle.std.proofs.lemmas.Bool.{ltb-true}
 use Rattle.mask_terms.specs.declared.wires.Wires.{Wires}
 use Rattle.mask_terms.specs.declared.wires.Wires.TheVariants.{Plain, Copies}
+use Rattle.wire_table.specs.CodeItems.{HasSmallWeight}
 use Rattle.wire_table.specs.Items.{Item, output_index, weighted_item, numbers, ObservesFew, HasVariablesBelow}
 use Rattle.wire_table.specs.Tables.{Table, StandsFor}
 use Rattle.wire_table.specs.Uses.{operands, uses_of, wire_count, weight_of, wire_items}
@@ -77,18 +78,19 @@ module _ (wires : Wires) (g : Circuit) where
       All-wires (HasVariablesBelow (length g.variables)) (λ v l. All-cons (λ w. w < length g.variables) v [] l (All-nil (λ w. w < length g.variables)))
 
   -- each stands for some wire, and for few
-  pub weights-wires : All (λ item. (1 ≤ item.weight) × (item.weight ≤ 4 * length g.variables)) (wire_items wires g)
+  pub weights-wires : IsGadget g → All HasSmallWeight (wire_items wires g)
   unfolding wire_items
-  weights-wires =
+  weights-wires is =
       let item : ℕ → Item = λ v. weighted_item g (weight_of wires g v) v in
       let leaks : ℕ → Bool = λ v. nat_lt 0 (weight_of wires g v) in
-      let P : Item → Type 0 = λ item. (1 ≤ item.weight) × (item.weight ≤ 4 * length g.variables) in
-      All-map P item (filter leaks (numbers g))
-      (All-weaker (Contains (filter leaks (numbers g))) (λ v. P (item v))
+      All-map HasSmallWeight item (filter leaks (numbers g))
+      (All-weaker (Contains (filter leaks (numbers g))) (λ v. HasSmallWeight (item v))
       (λ v c.
       let l = lt-from_range (length g.variables) v (Contains-from_filter leaks (numbers g) v c) in
       let some = ltb-true 0 (weight_of wires g v) (passes-from_filter leaks (numbers g) v c) in
-      (omega arith, wire_count-few wires (output_index g v) (uses_of g v) (length g.variables) (few_uses g v) (omega arith)))
+      let few = wire_count-few wires (output_index g v) (uses_of g v) (length g.variables) (few_uses g v) (omega arith) in
+      let most = is.few_variables in
+      (omega arith, omega arith))
       (filter leaks (numbers g)) (All-contains_itself (filter leaks (numbers g))))
 
   pub few_wires : length (wire_items wires g) ≤ length g.variables

@@ -1,7 +1,8 @@
 //! The wires that leak, as items.
 
-ghost use Rattle.std.specs.Prelude.{◌≡◌, ◌*◌, ◌<◌, ◌≤◌, ◌^◌, ℕ, Option, is_some, IfOk, length, map};
+ghost use Rattle.std.specs.Prelude.{◌≡◌, ◌*◌, ◌<◌, ◌≤◌, ◌^◌, ℕ, Option, is_some, All, IfOk, length, map};
 ghost use Rattle.gadget_limits.specs.Limits.{most_variables};
+ghost use Rattle.wire_table.specs.CodeItems.{HasSmallWeight};
 ghost use Rattle.wire_table.specs.Items.{item_of};
 ghost use Rattle.wire_table.specs.Tables.{StandsFor};
 ghost use Rattle.wire_table.specs.Uses.{wire_count, wire_items};
@@ -23,6 +24,7 @@ pub fn wire_items(
     requires table { StandsFor table.now gadget.now }
     ensures items { IfOk result (λ items. map item_of items.items ≡ wire_items wires gadget.now) }
     ensures few { IfOk result (λ items. length items.items ≤ most_variables) }
+    ensures weights { IfOk result (λ items. All HasSmallWeight (map item_of items.items)) }
 {
     let mut items = Vec::new(alloc);
     for var in 0..gadget.vars().len() as u16 {

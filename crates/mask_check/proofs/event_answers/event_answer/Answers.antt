@@ -6,15 +6,12 @@ use Rattle.rp_events.specs.Events.{event_of}
 use Rattle.rp_events.specs.Questions.{EventQuestion, leaking_items}
 use Rattle.mask_check.specs.Questions.{QuestionAnswer}
 use Rattle.mask_check.proofs.Asking.{IsAnswerTo-event}
-use Rattle.mask_check.proofs.EventLines.{small_weights-asked}
-use Rattle.gadget_tree.specs.Gadgets.{IsGadget}
+use Rattle.mask_check.proofs.EventLines.{small_weights}
 use Rattle.mask_check.proofs.event_answers.event_answer.Goals as goal
 
 pub coefficients-requires-clause-weights_at_most : goal.coefficients-requires-clause-weights_at_most
 coefficients-requires-clause-weights_at_most g c =
-    let q = c.in_ok-query.query in
-    let P : EventQuestion → Type 0 = λ p. IsGadget p.gadget in
-    λ lifetimes bounds. small_weights-asked (map item_of c.list.result.now) q c.list.ensures (subst P c.query.view_is c.query.invariant.gadget)
+    λ lifetimes bounds. small_weights (map item_of c.list.result.now) c.list.ensures.weights
 
 pub returns : goal.returns
 returns g c =
@@ -26,4 +23,4 @@ returns g c =
     let sized : q.size ≡ s.size = ap (λ (p : EventQuestion). p.size) c.in_ok-query.ensures in
     IsAnswerTo-event s c.args.gadget.now c.args.table.now (event_of c.args.event.now) leaking.0 leaking.1 q c.in_ok-query.ensures answer
     c.in_ok-failing.ensures
-    (subst (P (leaking_items q)) (sym sized) (subst (λ (of : List Item). P of s.size) c.list.ensures c.in_ok-coefficients.ensures))
+    (subst (P (leaking_items q)) (sym sized) (subst (λ (of : List Item). P of s.size) c.list.ensures.items c.in_ok-coefficients.ensures))

@@ -2,23 +2,16 @@ use Rattle.std.proofs.Common.{◌≡◌, ◌∙◌, ◌+◌, List, [], ◌∷◌
 use Rattle.std.proofs.lemmas.List.{take_more}
 use Rattle.gadget_tree.proofs.StepsMake.{All-from_map}
 use Rattle.rp_events.specs.Events.{event_of}
-use Rattle.rp_events.specs.Failing.{AreOutputSets}
+use Rattle.rp_events.specs.Questions.{IsEventOf}
 use Rattle.rp_events.specs.declared.event.Event as code
-use Rattle.mask_check.specs.Decisions.{HasSmallWhich}
 use Rattle.mask_check.proofs.EventLines.{AreAnswersTo-more}
 use Rattle.mask_check.proofs.event_answers.event_answers.Goals as goal
 
-pub event_answer-requires-clause-outputs : goal.event_answer-requires-clause-outputs
-event_answer-requires-clause-outputs g c =
-    let P : code.Event → Type 0 = λ event. AreOutputSets c.args.gadget.now (event_of event) in
+pub event_answer-requires-clause-event : goal.event_answer-requires-clause-event
+event_answer-requires-clause-event g c =
+    let P : code.Event → Type 0 = λ event. IsEventOf c.args.gadget.now (event_of event) in
     λ lifetimes bounds. subst P (sym c.event-item.is)
-    (All-from_map (AreOutputSets c.args.gadget.now) event_of c.args.events.now c.requires.outputs c.loop-event.event-index c.event-item.result c.loop-event-test.true)
-
-pub event_answer-requires-clause-which : goal.event_answer-requires-clause-which
-event_answer-requires-clause-which g c =
-    let P : code.Event → Type 0 = λ event. HasSmallWhich (event_of event) in
-    λ lifetimes bounds. subst P (sym c.event-item.is)
-    (All-from_map HasSmallWhich event_of c.args.events.now c.requires.which c.loop-event.event-index c.event-item.result c.loop-event-test.true)
+    (All-from_map (IsEventOf c.args.gadget.now) event_of c.args.events.now c.requires.events c.loop-event.event-index c.event-item.result c.loop-event-test.true)
 
 pub loop-event-preserved : goal.loop-event-preserved
 loop-event-preserved g c =

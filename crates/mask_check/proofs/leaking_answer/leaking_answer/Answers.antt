@@ -2,14 +2,14 @@ use Rattle.std.proofs.Common.{◌≡◌, ◌∙◌, ◌≤◌, ◌*◌, ◌^◌,
 use Rattle.std.proofs.lemmas.List.{length-map}
 use Rattle.std.proofs.lemmas.Result.{err_from_is_err_and}
 use Rattle.wire_table.specs.Items.{Item, item_of}
-use Rattle.rp_events.specs.Events.{Event, GivesEvents, event_of, events_of}
+use Rattle.rp_events.specs.Events.{GivesEvents, event_of}
 use Rattle.rp_events.specs.declared.event.Event as code
-use Rattle.rp_events.proofs.Whiches.{events_of-small}
+use Rattle.rp_events.specs.Questions.{IsEventOf}
 use Rattle.report.specs.declared.status.Status.TheVariants.{Listed}
 use Rattle.mask_check.specs.declared.answer.QuestionAnswer as code_answer
 use Rattle.mask_check.specs.Questions.{items as items_of_check}
 use Rattle.mask_check.specs.Tallying.{state_of, tallying_of, tally_part, AreFed}
-use Rattle.mask_check.specs.Decisions.{answer_of, event_questions, AreAnswersTo, HasSmallWhich, IsOfItems}
+use Rattle.mask_check.specs.Decisions.{answer_of, event_questions, AreAnswersTo, IsOfItems}
 use Rattle.mask_check.proofs.FewTuples.{few_tuples}
 use Rattle.mask_check.proofs.Suited.{few_events}
 use Rattle.mask_check.proofs.Asking.{items-leaking}
@@ -34,13 +34,11 @@ overflow_mul-work g c =
     let m : c.count-tuples.result * c.len-2.result ≤ 2 ^ 45 * 65536 = mul-le-mul tuples l in
     omega arith
 
-pub event_answers-requires-clause-which : goal.event_answers-requires-clause-which
-event_answers-requires-clause-which g c =
-    let s = c.args.settings.now in
-    let circuit = c.args.gadget.now in
-    let given : GivesEvents c.args.rp circuit s.t (Ok (map event_of c.in_ok-events.events.items)) = search rules in
-    let P : List Event → Type 0 = λ es. All HasSmallWhich es in
-    λ κs alive. subst P (sym (ap (map event_of) c.deref.ensures.value ∙ given.1)) (events_of-small c.args.rp circuit s.t)
+pub event_answers-requires-clause-events : goal.event_answers-requires-clause-events
+event_answers-requires-clause-events g c =
+    let of_gadget : All (IsEventOf c.args.gadget.now) (map event_of c.in_ok-events.events.items) = search rules in
+    let P : List code.Event → Type 0 = λ es. All (IsEventOf c.args.gadget.now) (map event_of es) in
+    λ κs alive. subst P (sym c.deref.ensures.value) of_gadget
 
 pub add_events-requires : goal.add_events-requires
 add_events-requires g c =

@@ -3,8 +3,10 @@ use Rattle.std.specs.List.{All}
 use Rattle.rp_events.specs.declared.choices.Choice.TheVariants.{AllButOne}
 use Rattle.rp_events.specs.Events.{Given, all_but_one}
 use Rattle.rp_events.specs.Failing.{AreOutputSets}
+use Rattle.rp_events.specs.Events.{event_of}
 use Rattle.rp_events.specs.Choices.{events_from, given_of}
 use Rattle.rp_events.proofs.OutputBits.{IsSmall, of_events_from}
+use Rattle.rp_events.proofs.GadgetEvents.{all_of_gadget}
 use Rattle.rp_events.proofs.ListedEvents.{exact_held, free_held, all_have_shares, events_from-are}
 use Rattle.rp_events.proofs.listing.events.Goals as goal
 
@@ -29,8 +31,8 @@ returns-clause-events c =
           ∙ events_from-are c.args.rp c.args.gadget.now c.args.t,
     )
 
-pub returns-clause-outputs : goal.returns-clause-outputs
-returns-clause-outputs c =
+pub returns-clause-of_gadget : goal.returns-clause-of_gadget
+returns-clause-of_gadget c =
     let g = c.args.gadget.now in
     let exact =
     (exact_held g.shares c.shares.result c.args.t c.in_ok-given.given.items c.deref.result.now c.in_ok-exact.exact.items c.deref-2.result.now
@@ -40,6 +42,8 @@ returns-clause-outputs c =
     (omega arith) c.shares-2.ensures.shares c.shares-3.ensures.shares c.deref-3.ensures.value c.in_ok-all_but_one.ensures in
     let gadget = c.vars-vars.ensures.gadget in
     let small : IsSmall g = record { shares = gadget.few_shares; some = gadget.some_outputs; outputs = gadget.few_outputs } in
+    let outputs : All (AreOutputSets g) (map event_of c.in_ok-listed.field-0.items) =
     subst (All (AreOutputSets g)) (sym c.in_ok-listed.ensures)
     (of_events_from g small c.args.rp (map given_of c.deref-2.result.now) (map given_of (AllButOne c.deref-3.result ∷ []))
-    (all_have_shares g.shares c.deref-2.result.now exact) (all_have_shares g.shares (AllButOne c.deref-3.result ∷ []) free))
+    (all_have_shares g.shares c.deref-2.result.now exact) (all_have_shares g.shares (AllButOne c.deref-3.result ∷ []) free)) in
+    all_of_gadget c.args.rp g c.args.t (map event_of c.in_ok-listed.field-0.items) (returns-clause-events c).1 outputs

@@ -1,11 +1,12 @@
-use Rattle.std.proofs.Common.{ℕ, Bool, nat_lt, [], ap, sym, ◌∙◌, arith, map, length}
+use Rattle.std.proofs.Common.{ℕ, Bool, nat_lt, [], All, ap, sym, subst, ◌∙◌, arith, map, length}
 use Rattle.std.proofs.lemmas.List.{length-map}
 use Rattle.std.proofs.lemmas.Bool.{lt-ltb, le-ltb}
+use Rattle.wire_table.specs.CodeItems.{HasSmallWeight}
 use Rattle.wire_table.specs.Items.{Item, item_of, weighted_item}
 use Rattle.wire_table.specs.Uses.{weight_of}
 use Rattle.wire_table.proofs.Monomials.{length-variables_of}
 use Rattle.wire_table.proofs.ItemPushes.{push_kept, skip_left}
-use Rattle.wire_table.proofs.WireItems.{small_uses, weight-at, items_of_all, few_wires}
+use Rattle.wire_table.proofs.WireItems.{small_uses, weight-at, items_of_all, few_wires, weights-wires}
 use Rattle.wire_table.proofs.leaking_wires.wire_items.Goals as goal
 use Rattle.wire_table.proofs.leaking_wires.wire_items.Goals.{then-weight-gt0+in_ok-weighted_item+in_ok-push, else-weight-gt0}
 
@@ -57,3 +58,11 @@ returns-clause-few c =
     let gadget = c.vars.ensures.gadget in
     let most = gadget.few_variables in
     omega arith
+
+pub returns-clause-weights : goal.returns-clause-weights
+returns-clause-weights c =
+    let all = length-variables_of c.args.gadget.now c.vars.result.now c.vars.ensures.variables in
+    let l = c.loop-var-test.false in
+    let m = c.loop-var.auto.var-end in
+    let is = items_of_all c.args.wires c.args.gadget.now c.loop-var.var (map item_of c.loop-var.items.items) (omega arith) c.loop-var.invariant in
+    subst (All HasSmallWeight) (sym is) (weights-wires c.args.wires c.args.gadget.now c.vars.ensures.gadget)

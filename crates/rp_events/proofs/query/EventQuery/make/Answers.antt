@@ -11,11 +11,11 @@ invariant_of-result c =
       gadget = is;
       table = c.requires.table;
       small = c.requires.size;
-      outputs = c.requires.event;
-      which = c.requires.which;
+      event = c.requires.event;
       items = c.in_ok-list.ensures.items;
       few_items = let a = few_wires c.args.wires g in let b = is.few_variables in omega arith;
       few_variables = few_variables-wires c.args.wires g;
       variables = variables_below-wires c.args.wires g;
+      weights = c.in_ok-list.ensures.weights;
       lists = c.in_ok-outputs.ensures ∙ ap (map (shares_in g)) c.deref.ensures.value;
     }

@@ -1,5 +1,5 @@
--- Events ask of inputs that a gadget may have.
-use Rattle.std.proofs.Common.{ℕ, eqb, List, [], ◌∷◌, map, length, arith}
+-- Events ask about inputs that there may be, and so they are of their gadget.
+use Rattle.std.proofs.Common.{◌≡◌, ℕ, eqb, List, [], ◌∷◌, map, length, subst, sym, arith}
 use Rattle.std.specs.Prelude.{flat_map, replicate}
 use Rattle.std.specs.List.{All}
 use Rattle.std.proofs.lemmas.Bool.{cond_both}
@@ -10,7 +10,8 @@ use Rattle.wire_table.specs.declared.which.Which.TheVariants.{Any, Input, Both}
 use Rattle.rp_events.specs.declared.rp.Rp.{Rp}
 use Rattle.rp_events.specs.declared.rp.Rp.TheVariants.{Rpc, Rpe}
 use Rattle.rp_events.specs.Events.{Event, event_with, events_of, exact_choices, mode_choices, selections, whiches}
-use Rattle.rp_events.specs.Inside.{IsSmallWhich}
+use Rattle.rp_events.specs.Failing.{AreOutputSets}
+use Rattle.rp_events.specs.Questions.{IsEventOf, IsSmallWhich}
 
 -- what holds of all parts holds of them joined
 All-flat_map : {X Y : Type 0} (P : Y → Type 0) (f : X → List Y) → ((x : X) → All P (f x)) → (xs : List X) → All P (flat_map f xs)
@@ -25,7 +26,7 @@ small_whiches g =
     (λ more. All-cons IsSmallWhich (Input 0) (Input 1 ∷ Both ∷ []) (omega arith)
     (All-cons IsSmallWhich (Input 1) (Both ∷ []) (omega arith) (All-cons IsSmallWhich Both [] tt (All-nil IsSmallWhich))))
 
-pub events_of-small : (rp : Rp) (g : Circuit) (t : ℕ) → All (λ event. IsSmallWhich event.which) (events_of rp g t)
+events_of-small : (rp : Rp) (g : Circuit) (t : ℕ) → All (λ event. IsSmallWhich event.which) (events_of rp g t)
 unfolding events_of
 events_of-small Rpc g t =
     All-map (λ event. IsSmallWhich event.which) (λ given. event_with g Rpc given Any) (selections (replicate (length g.outputs) (exact_choices g t))) (λ k d l. tt)
@@ -34,3 +35,9 @@ events_of-small Rpe g t =
     All-flat_map P (λ modes. flat_map (λ given. map (event_with g Rpe given) (whiches g)) (selections modes))
     (λ modes. All-flat_map P (λ given. map (event_with g Rpe given) (whiches g)) (λ given. All-map P (event_with g Rpe given) (whiches g) (small_whiches g)) (selections modes))
     (selections (replicate (length g.outputs) (mode_choices g t)))
+
+-- events whose sets are of output shares are of the gadget
+pub all_of_gadget : (rp : Rp) (g : Circuit) (t : ℕ) (events : List Event) → events ≡ events_of rp g t → All (AreOutputSets g) events → All (IsEventOf g) events
+all_of_gadget rp g t events are outputs =
+    let small = subst (All (λ (event : Event). IsSmallWhich event.which)) (sym are) (events_of-small rp g t) in
+    λ k d l. record { outputs = outputs k d l; which = small k d l }
