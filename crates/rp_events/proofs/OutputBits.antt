@@ -16,7 +16,7 @@ use Rattle.rp_events.specs.declared.rp.Rp.{Rp}
 use Rattle.rp_events.specs.declared.rp.Rp.TheVariants.{Rpc, Rpe}
 use Rattle.rp_events.specs.Events.{Given, chosen, selections, set_from, event_with}
 use Rattle.rp_events.specs.Failing.{IsOutputSet, AreOutputSets}
-use Rattle.rp_events.specs.Choices.{shares_at, each_which, events_by, modes_of, asked_of, events_from}
+use Rattle.rp_events.specs.Choices.{shares_at, each_which, events_by, modes_of, whiches_of, events_from}
 use Rattle.rp_events.proofs.ShareSums.{shares_at-cons, shares_at-room}
 use Rattle.rp_events.proofs.SelectedEvents.{All-selections, lengths-selections}
 
@@ -124,8 +124,8 @@ module _ (g : Circuit) (small : IsSmall g) where
       let both : All P (modes_of rp exact free) = of_rp rp in
       let has = All-selections P modes (All-replicate (All P) (length g.outputs) (modes_of rp exact free) both) in
       let long = lengths-selections modes in
-      All-flat_map (AreOutputSets g) (events_by g rp (asked_of rp g)) (selections modes)
-      (λ k d m. of_modes rp (asked_of rp g) (get_or (selections modes) k d) (long k d m ∙ length-replicate (length g.outputs) (modes_of rp exact free)) (has k d m))
+      All-flat_map (AreOutputSets g) (events_by g rp (whiches_of rp g)) (selections modes)
+      (λ k d m. of_modes rp (whiches_of rp g) (get_or (selections modes) k d) (long k d m ∙ length-replicate (length g.outputs) (modes_of rp exact free)) (has k d m))
     where
       of_rp : (rp : Rp) → All (All (HasShares g.shares)) (modes_of rp exact free)
       of_rp Rpc = All-cons (All (HasShares g.shares)) exact [] e (All-nil (All (HasShares g.shares)))

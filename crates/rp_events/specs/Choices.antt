@@ -50,11 +50,11 @@ modes_of Rpc exact free = exact ∷ []
 modes_of Rpe exact free = exact ∷ free ∷ []
 
 -- over which inputs a task asks
-abbrev pub asked_of : Rp → Circuit → List Which
-asked_of Rpc g = Any ∷ []
-asked_of Rpe g = whiches g
+abbrev pub whiches_of : Rp → Circuit → List Which
+whiches_of Rpc g = Any ∷ []
+whiches_of Rpe g = whiches g
 
 -- the events of a task, where these may be given of each output
 abbrev pub events_from : Rp → Circuit → List Given → List Given → List Event
 events_from rp g exact free =
-    flat_map (events_by g rp (asked_of rp g)) (selections (replicate (length g.outputs) (modes_of rp exact free)))
+    flat_map (events_by g rp (whiches_of rp g)) (selections (replicate (length g.outputs) (modes_of rp exact free)))

@@ -4,7 +4,6 @@
 //! counted and how the simulator chooses are this project's own.
 #![tactic(auto)]
 
-mod asked;
 mod choices;
 mod event;
 mod exceeds;
@@ -18,6 +17,7 @@ mod query;
 mod refusals;
 mod rp;
 mod selections;
+mod whiches;
 
 pub use event::Event;
 pub use laws::failing_is_inherited_law;

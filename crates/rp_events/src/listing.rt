@@ -7,7 +7,6 @@ ghost use Rattle.rp_events.specs.Events.{GivesEvents, event_of, event_with, sele
 ghost use Rattle.rp_events.specs.Questions.{IsEventOf};
 ghost use Rattle.rp_events.specs.Choices.{IsChoice, events_by, events_from, given_of, modes_of};
 
-use crate::asked::asked_of;
 use crate::choices::{Choice, exact_choices};
 use crate::event::Event;
 use crate::index_sets::index_sets;
@@ -16,6 +15,7 @@ use crate::output_sets::output_sets;
 use crate::refusals::refuse;
 use crate::rp::{Rp, RpError};
 use crate::selections::selections;
+use crate::whiches::whiches_of;
 use gadget_tree::Gadget;
 use mask_bytes::OutOfMemory;
 use std::alloc::Global;
@@ -57,7 +57,7 @@ fn listed<'s>(
         ≡ events_from rp gadget.now (map given_of exact.now) (map given_of free.now)) }
 {
     let modes = modes_of(alloc, rp, exact, free)?;
-    by_modes(alloc, gadget, rp, &modes, asked_of(gadget, rp))
+    by_modes(alloc, gadget, rp, &modes, whiches_of(gadget, rp))
 }
 
 // The modes that a task has, where these may be given: composability has one, expandability both.

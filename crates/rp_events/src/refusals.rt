@@ -3,9 +3,9 @@
 ghost use Rattle.std.specs.Prelude.{◌≡◌, MatchResult, Some, None};
 ghost use Rattle.rp_events.specs.Events.{event_count, has_large_order, has_many_inputs, refusal};
 
-use crate::asked::asked_of;
 use crate::index_sets::count_index_sets;
 use crate::rp::{Rp, RpError};
+use crate::whiches::whiches_of;
 use gadget_tree::Gadget;
 
 // There may be at most this many events.
@@ -58,6 +58,6 @@ fn event_count(gadget: &Gadget, rp: Rp, t: u8) -> u64
     let exact = count_index_sets(gadget.shares(), t);
     match rp {
         Rp::Rpc => exact.pow(outputs),
-        Rp::Rpe => (exact + 1).pow(outputs) * asked_of(gadget, rp).len() as u64,
+        Rp::Rpe => (exact + 1).pow(outputs) * whiches_of(gadget, rp).len() as u64,
     }
 }

@@ -23,7 +23,7 @@ fn places(kind: VarKind, v: u16) -> u32
 }
 
 // How many operand places name a variable.
-fn uses_of(vars: &[Var], v: u16) -> u32
+fn uses_among(vars: &[Var], v: u16) -> u32
     requires { length vars.now ≤ most_variables }
     ensures { result ≡ uses_among vars.now v }
 {
@@ -40,5 +40,5 @@ pub(crate) fn uses(alloc: Global, vars: &[Var]) -> Result<Vec<u32>, AllocError>
     ensures { IfOk result (λ uses. uses.items ≡ map (uses_among vars.now) (range_with_len 0 (length vars.now))) }
 {
     let count = vars.len() as u16;
-    (0..count).map(|v| uses_of(vars, v)).collect(alloc)
+    (0..count).map(|v| uses_among(vars, v)).collect(alloc)
 }

@@ -5,7 +5,7 @@ use Rattle.list_laws.proofs.Counts.{map-map}
 use Rattle.gadget_tree.proofs.StepsMake.{All-from_map}
 use Rattle.rp_events.specs.declared.choices.Choice.{Choice}
 use Rattle.rp_events.specs.Events.{Given, event_of, selections}
-use Rattle.rp_events.specs.Choices.{IsChoice, given_of, events_by, asked_of}
+use Rattle.rp_events.specs.Choices.{IsChoice, given_of, events_by, whiches_of}
 use Rattle.rp_events.proofs.ListedEvents.{map-modes_of, All-modes_of}
 use Rattle.rp_events.proofs.listing.listed.Goals as goal
 
@@ -28,6 +28,6 @@ returns c =
     ∙ sym (map-map (map given_of) now given (λ mode. refl) c.in_ok-modes.modes.items)
     ∙ ap (map (map given_of)) c.in_ok-modes.ensures ∙ map-modes_of (map given_of) rp c.args.exact.now c.args.free.now in
     let from =
-    ap (λ asked. flat_map (events_by g rp asked) (selections (replicate (length g.outputs) (map given c.deref.result.now)))) c.asked_of.ensures.asked
-    ∙ ap (λ (modes : List (List Given)). flat_map (events_by g rp (asked_of rp g)) (selections (replicate (length g.outputs) modes))) modes in
+    ap (λ asked. flat_map (events_by g rp asked) (selections (replicate (length g.outputs) (map given c.deref.result.now)))) c.whiches_of.ensures.whiches
+    ∙ ap (λ (modes : List (List Given)). flat_map (events_by g rp (whiches_of rp g)) (selections (replicate (length g.outputs) modes))) modes in
     subst (λ listed. IfOk c.by_modes.result (λ events. map event_of events.items ≡ listed)) from c.by_modes.ensures

@@ -1,5 +1,5 @@
 use Rattle.std.proofs.Common.{◌+◌, ◌*◌, ◌≤◌, length, ap, ◌∙◌, arith, mul-le-mul}
-use Rattle.rp_events.specs.Choices.{asked_of}
+use Rattle.rp_events.specs.Choices.{whiches_of}
 use Rattle.rp_events.proofs.Counts.{event_count-Rpc, event_count-Rpe, power-few}
 use Rattle.rp_events.proofs.refusals.event_count.Goals as goal
 
@@ -17,7 +17,7 @@ pub overflow_mul-result : goal.overflow_mul-result
 overflow_mul-result c =
     let p = power-few (c.count_index_sets-exact.result + 1) (length c.outputs.result.now) (omega arith) (omega arith) in
     let r : c.pow-in-Rpe.result ≤ 4295098369 = omega arith in
-    let m : c.pow-in-Rpe.result * length c.asked_of.result.now ≤ 4295098369 * 3 = mul-le-mul r c.asked_of.ensures.few in
+    let m : c.pow-in-Rpe.result * length c.whiches_of.result.now ≤ 4295098369 * 3 = mul-le-mul r c.whiches_of.ensures.few in
     omega arith
 
 pub returns-in-Rpc : goal.returns-in-Rpc
@@ -40,5 +40,5 @@ returns-in-Rpe c =
     let s = c.count_index_sets-exact.ensures.count in
     let n = c.shares.ensures.shares in
     let i = c.in-Rpe.is in
-    let w = ap length c.asked_of.ensures.asked ∙ ap (λ rp. length (asked_of rp g)) i in
+    let w = ap length c.whiches_of.ensures.whiches ∙ ap (λ rp. length (whiches_of rp g)) i in
     rw i (cc)

@@ -1,15 +1,15 @@
 //! Over which inputs a task asks.
 
 ghost use Rattle.std.specs.Prelude.{◌≡◌, ◌≤◌, length};
-ghost use Rattle.rp_events.specs.Choices.{asked_of};
+ghost use Rattle.rp_events.specs.Choices.{whiches_of};
 
 use crate::rp::Rp;
 use gadget_tree::Gadget;
 use wire_table::Which;
 
 /// Over which inputs a task asks: each event has one of these.
-pub(crate) fn asked_of(gadget: &Gadget, rp: Rp) -> &'static [Which]
-    ensures asked { result.now ≡ asked_of rp gadget.now }
+pub(crate) fn whiches_of(gadget: &Gadget, rp: Rp) -> &'static [Which]
+    ensures whiches { result.now ≡ whiches_of rp gadget.now }
     ensures few { length result.now ≤ 3 }
 {
     match rp {

@@ -1,6 +1,6 @@
 use Rattle.std.proofs.Common.{◌≡◌, ◌*◌, ◌≤◌, take}
 use Rattle.wire_table.specs.UseCounts.{uses_among}
-use Rattle.wire_table.proofs.use_counts.uses_of.Given as goal
+use Rattle.wire_table.proofs.use_counts.uses_among.Given as goal
 
 abbrev pub invariant-loop-var : goal.invariant-loop-var
 invariant-loop-var l = record {
