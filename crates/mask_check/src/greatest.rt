@@ -4,7 +4,6 @@ ghost use Rattle.std.specs.Prelude.{◌≡◌, ◌++◌, OnOk, IfOk, map, option
 ghost use Rattle.rp_events.specs.Events.{event_of};
 ghost use Rattle.report.specs.Report.{HasOwnWord};
 ghost use Rattle.mask_check.specs.Report.{coefficients_for, greater_each, greatest_lines, greatest_of, greatest_part};
-ghost use Rattle.mask_check.specs.Report.{same_which};
 ghost use Rattle.mask_check.specs.Decisions.{answer_of, event_questions, greatest_with};
 
 use crate::answer::QuestionAnswer;
@@ -67,22 +66,11 @@ fn greatest_for(
 {
     let mut found: Option<Vec<u128>> = None;
     for (event, answer) in events.iter().zip(answers) {
-        if same_which(which, event.which) {
+        if which == event.which {
             found = Some(greatest_with(alloc, found, &answer.coefficients)?);
         }
     }
     Ok(found)
-}
-
-// Whether two events ask of the same inputs.
-fn same_which(a: Which, b: Which) -> bool
-    ensures { result ≡ same_which a b }
-{
-    match (a, b) {
-        (Which::Any, Which::Any) | (Which::Both, Which::Both) => true,
-        (Which::Input(k), Which::Input(j)) => k == j,
-        _ => false,
-    }
 }
 
 // The greatest numbers so far, with these also.
