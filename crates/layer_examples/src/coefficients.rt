@@ -2,7 +2,7 @@
 
 ghost use Rattle.std.specs.Prelude.{◌≡◌, ◌≤◌, All, IfOk, length, map};
 ghost use Rattle.tuple_model.specs.Limits.{most_items, most_size};
-ghost use Rattle.wire_table.specs.Items.{item_of};
+ghost use Rattle.wire_table.specs.CodeItems.{item_of};
 ghost use Rattle.wire_counts.specs.Coefficients.{weights_of};
 ghost use Rattle.wire_counts.specs.Limits.{most_weight};
 

@@ -16,7 +16,8 @@ use Rattle.notions.specs.declared.notion.Notion.{Notion as NotionKind}
 use Rattle.rp_events.specs.declared.rp.Rp.{Rp}
 use Rattle.rp_events.specs.Events.{events_of}
 use Rattle.mask_words.specs.declared.answer.Settings.{Settings}
-use Rattle.report.specs.Report.{AreAmong, fail_lines, verdict}
+use Rattle.report.specs.Report.{fail_lines, verdict}
+use Rattle.report.specs.Additions.{AreAmong}
 use Rattle.report.specs.declared.status.Status.{Status}
 use Rattle.report.specs.declared.status.Status.TheVariants.{Yes, No, Listed}
 use Rattle.mask_check.specs.declared.asked.Asked.{Asked}

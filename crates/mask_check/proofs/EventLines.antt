@@ -10,7 +10,7 @@ use Rattle.wire_table.specs.Items.{Item}
 use Rattle.wire_counts.specs.Coefficients.{weights_of}
 use Rattle.wire_counts.specs.Limits.{most_weight}
 use Rattle.rp_events.specs.declared.event.Event as of_code
-use Rattle.rp_events.specs.Events.{event_of}
+use Rattle.rp_events.specs.Questions.{event_of}
 use Rattle.mask_words.specs.declared.answer.Settings.{Settings}
 use Rattle.mask_check.specs.declared.answer.QuestionAnswer as code
 use Rattle.mask_check.specs.Questions.{Question, QuestionAnswer, IsAnswerTo}

@@ -2,7 +2,7 @@
 use Rattle.std.proofs.Common.{◌≡◌, ◌∙◌, ◌⊎◌, inl, inr, ℕ, List, [], ◌∷◌, ◌++◌, map, ap, sym, refl, max, Option, Some, None, Bool, true, false, if◌then◌else◌, append-nil, arith}
 use Rattle.wire_table.specs.declared.which.Which.{Which}
 use Rattle.rp_events.specs.declared.event.Event as of_code
-use Rattle.rp_events.specs.Events.{event_of}
+use Rattle.rp_events.specs.Questions.{event_of}
 use Rattle.mask_words.specs.declared.answer.Settings.{Settings}
 use Rattle.mask_check.specs.declared.answer.QuestionAnswer as code
 use Rattle.mask_check.specs.Questions.{Question, QuestionAnswer}

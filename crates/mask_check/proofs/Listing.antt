@@ -7,12 +7,14 @@ use Rattle.std.specs.List.{AllZip}
 use Rattle.std.proofs.lemmas.List.Elements.{All-nil, All-cons}
 use Rattle.gadget_model.specs.Circuit.{Circuit}
 use Rattle.tuple_model.specs.Minimal.{IsAnswer}
-use Rattle.wire_table.specs.Items.{Item, item_of}
+use Rattle.wire_table.specs.Items.{Item}
+use Rattle.wire_table.specs.CodeItems.{item_of}
 use Rattle.wire_table.specs.declared.item.Item as code_item
 use Rattle.wire_table.specs.Uses.{wire_items}
 use Rattle.tuple_model.specs.Tuples.{tuples}
 use Rattle.rp_events.specs.declared.rp.Rp.{Rp}
-use Rattle.rp_events.specs.Events.{Event, event_of, events_of, event_count, refusal}
+use Rattle.rp_events.specs.Events.{Event, events_of, event_count, refusal}
+use Rattle.rp_events.specs.Questions.{event_of}
 use Rattle.rp_events.specs.declared.event.Event as code
 use Rattle.mask_words.specs.declared.answer.Settings.{Settings}
 use Rattle.report.specs.Report.{head, wires_line}

@@ -16,9 +16,8 @@ use Rattle.report.specs.declared.status.NotFor.TheVariants.{SeveralOutputs, Many
 use Rattle.mask_check.specs.declared.asked.Asked.{Asked}
 use Rattle.mask_check.specs.declared.asked.Asked.TheVariants.{Notion, Leaking}
 use Rattle.mask_check.specs.Questions.{asked_by, questions_by, IsUnsuited, IsUnsuitedBy, IsSuited, tuple_count, work}
-use Rattle.mask_check.specs.Causes.{status_of_events}
 use Rattle.mask_check.specs.Tallying.{Tallying, AreKept}
-use Rattle.mask_check.specs.Decisions.{Declines, event_question}
+use Rattle.mask_check.specs.Decisions.{Declines, event_question, status_of_events}
 
 module _ (s : Settings) (g : Circuit) (asks : Asked) (are : asked_by s.task ≡ asks) where
   pub IsUnsuited-from : (why : NotFor) → IsUnsuitedBy asks s g why → IsUnsuited s g why

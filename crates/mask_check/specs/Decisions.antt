@@ -7,10 +7,15 @@ use Rattle.tuple_model.specs.Limits.{most_size}
 use Rattle.mask_terms.specs.Tasks.{is_demo}
 use Rattle.wire_table.specs.Items.{Item}
 use Rattle.notions.specs.declared.notion.Notion.{Notion as NotionKind}
+use Rattle.notions.specs.declared.notion.NotionError.{NotionError}
+use Rattle.notions.specs.declared.notion.NotionError.TheVariants as notion_errors
 use Rattle.rp_events.specs.Events.{Event}
 use Rattle.rp_events.specs.declared.rp.Rp.{Rp}
+use Rattle.rp_events.specs.declared.rp.RpError.{RpError}
+use Rattle.rp_events.specs.declared.rp.RpError.TheVariants as event_errors
 use Rattle.mask_words.specs.declared.answer.Settings.{Settings}
-use Rattle.report.specs.Report.{AreAmong}
+use Rattle.report.specs.Additions.{AreAmong}
+use Rattle.report.specs.declared.status.NotFor.TheVariants.{SeveralOutputs, ManyInputs, OrderTooLarge, ManyEvents}
 use Rattle.report.specs.declared.status.Status.{Status}
 use Rattle.report.specs.declared.status.Status.TheVariants.{NotForGadget, Budget, TooLong, ReadFault, OutOfMemory}
 use Rattle.mask_check.specs.declared.answer.Answer.{Answer}
@@ -48,6 +53,18 @@ LacksFile s reading ReadFault =
     (made_file s ≡ None) × CountsReadFault reading × TakesAtMost reading most_file_bytes
 LacksFile s reading OutOfMemory = ReadsLittleOf s reading
 LacksFile s reading status = ⊥
+
+-- the status of a notion that doesn't suit a gadget
+abbrev pub status_of_notion : NotionError → Status
+status_of_notion notion_errors.SeveralOutputs = NotForGadget SeveralOutputs
+status_of_notion notion_errors.OutOfMemory = OutOfMemory
+
+-- the status of a gadget that has no events
+abbrev pub status_of_events : RpError → Status
+status_of_events event_errors.ManyInputs = NotForGadget ManyInputs
+status_of_events event_errors.OrderTooLarge = NotForGadget OrderTooLarge
+status_of_events (event_errors.ManyEvents count) = NotForGadget (ManyEvents count)
+status_of_events event_errors.OutOfMemory = OutOfMemory
 
 -- the check is one of random probing
 abbrev pub IsLeaking : Settings → Type 0

@@ -2,9 +2,8 @@
 
 ghost use Rattle.std.specs.Prelude.{◌≡◌, ◌++◌, All, IfOk, OnOk, map};
 ghost use Rattle.wire_table.specs.Tables.{StandsFor};
-ghost use Rattle.wire_table.specs.Items.{item_of};
-ghost use Rattle.rp_events.specs.Events.{event_of};
-ghost use Rattle.rp_events.specs.Questions.{IsEventOf};
+ghost use Rattle.wire_table.specs.CodeItems.{item_of};
+ghost use Rattle.rp_events.specs.Questions.{IsEventOf, event_of};
 ghost use Rattle.mask_check.specs.Questions.{IsAnswerTo, items};
 ghost use Rattle.mask_check.specs.Report.{answer_lines, question_lines};
 ghost use Rattle.mask_check.specs.Decisions.{answer_of, event_question, event_questions, AreAnswersTo};

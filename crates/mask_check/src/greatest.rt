@@ -1,8 +1,8 @@
 //! The greatest coefficients of the events of each kind.
 
 ghost use Rattle.std.specs.Prelude.{◌≡◌, ◌++◌, OnOk, IfOk, map, option_map};
-ghost use Rattle.rp_events.specs.Events.{event_of};
-ghost use Rattle.report.specs.Report.{HasOwnWord};
+ghost use Rattle.rp_events.specs.Questions.{event_of};
+ghost use Rattle.report.specs.Additions.{HasOwnWord};
 ghost use Rattle.mask_check.specs.Report.{coefficients_for, greater_each, greatest_lines, greatest_of, greatest_part};
 ghost use Rattle.mask_check.specs.Decisions.{answer_of, event_questions, greatest_with};
 

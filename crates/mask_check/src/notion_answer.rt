@@ -4,7 +4,7 @@ ghost use Rattle.std.specs.Prelude.{◌≡◌, ◌≤◌, [], ◌∷◌, IfOk, M
 ghost use Rattle.tuple_model.specs.Limits.{most_items};
 ghost use Rattle.mask_terms.specs.Tasks.{is_demo};
 ghost use Rattle.wire_table.specs.Tables.{StandsFor};
-ghost use Rattle.wire_table.specs.Items.{item_of};
+ghost use Rattle.wire_table.specs.CodeItems.{item_of};
 ghost use Rattle.mask_check.specs.declared.asked.Asked.TheVariants as ask;
 ghost use Rattle.mask_check.specs.Questions.{asked_by};
 ghost use Rattle.mask_check.specs.Tallying.{state_of, tallying_of};

@@ -1,7 +1,8 @@
 //! The statuses of what the layers below refuse.
 
 ghost use Rattle.std.specs.Prelude.{◌≡◌};
-ghost use Rattle.mask_check.specs.Causes.{status_of_events, status_of_notion, status_of_words};
+ghost use Rattle.mask_check.specs.Causes.{status_of_words};
+ghost use Rattle.mask_check.specs.Decisions.{status_of_events, status_of_notion};
 
 use mask_words::WordsError;
 use notions::NotionError;

@@ -1,7 +1,7 @@
 //! Feeding the tallies, and their lines in the report.
 
 ghost use Rattle.std.specs.Prelude.{◌≡◌, ◌≤◌, [], ◌∷◌, ◌++◌, List, OnOk, map, flat_map, length, slice_get};
-ghost use Rattle.wire_table.specs.Items.{item_of};
+ghost use Rattle.wire_table.specs.CodeItems.{item_of};
 ghost use Rattle.tallies.specs.Counting.{cells, fed, most_labels};
 ghost use Rattle.mask_check.specs.Decisions.{answer_of};
 ghost use Rattle.mask_check.specs.Tallying.{tally_lines, printed, state_of, tally_part, tallying_of, AreFed};

@@ -5,7 +5,8 @@ ghost use Rattle.gadget_model.specs.Circuit.{Circuit};
 ghost use Rattle.gadget_model.specs.Simulation.{IsSimulatable, IsWithin};
 ghost use Rattle.tuple_model.specs.Limits.{most_size};
 ghost use Rattle.wire_table.specs.Tables.{StandsFor};
-ghost use Rattle.wire_table.specs.Items.{item_of, variables_in, ObservesFew, HasVariablesBelow};
+ghost use Rattle.wire_table.specs.Items.{variables_in};
+ghost use Rattle.wire_table.specs.CodeItems.{item_of, ObservesFew, HasVariablesBelow};
 ghost use Rattle.needed.specs.Others.{most_others};
 
 use crate::elimination::Elimination;

@@ -10,14 +10,15 @@ use Rattle.tuple_model.specs.Limits.{most_size}
 use Rattle.tuple_model.specs.Tuples.{IsTuple}
 use Rattle.tuple_model.proofs.Rising.{IsRising-member}
 use Rattle.wire_table.specs.Tables.{Table, StandsFor}
-use Rattle.wire_table.specs.Items.{Item, item_of, ObservesFew, HasVariablesBelow, variables_in}
+use Rattle.wire_table.specs.Items.{Item, variables_in}
+use Rattle.wire_table.specs.CodeItems.{item_of, ObservesFew, HasVariablesBelow}
 use Rattle.wire_table.specs.declared.item.Item as code
 use Rattle.notions.specs.declared.notion.Notion.{Notion}
 use Rattle.notions.specs.declared.query.NotionQuery.TheInside.{Inside}
 use Rattle.notions.specs.Inside.{notion_asked, IsPreparedNotion, HasSmallIndex}
 use Rattle.notions.specs.Items.{items_of}
-use Rattle.notions.specs.Questions.{NotionQuestion, FailsFor, items_asked}
-use Rattle.notions.specs.Notions.{Grants, Passes}
+use Rattle.notions.specs.Questions.{NotionQuestion, FailsFor, items_asked, Passes}
+use Rattle.notions.specs.Notions.{Grants}
 use Rattle.notions.proofs.Granted.{Passes-least, Fails-least, not_Fails-from_Passes}
 
 -- the set is the least from which the variables of a tuple's items, and no others, can be simulated, whatever gadget the table

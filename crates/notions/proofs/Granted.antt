@@ -5,7 +5,8 @@ use Rattle.gadget_model.specs.Simulation.{IsWithin, IsSimulatable}
 use Rattle.wire_table.specs.Items.{Item, variables_in}
 use Rattle.notions.specs.declared.notion.Notion.{Notion}
 use Rattle.notions.specs.declared.notion.Notion.TheVariants.{Ni, Tni, Sni, Pini}
-use Rattle.notions.specs.Notions.{HasAtMost, Grants, Fails, Passes, internal_count}
+use Rattle.notions.specs.Notions.{HasAtMost, Grants, Fails, internal_count}
+use Rattle.notions.specs.Questions.{Passes}
 use Rattle.needed.proofs.ShareCounts.{shares_of-within}
 
 HasAtMost-within : (g : Circuit) (most small large : ℕ) → IsWithin small large → HasAtMost g most large → HasAtMost g most small

@@ -4,7 +4,8 @@ use Rattle.std.specs.Int.{from_bool}
 use Rattle.std.proofs.lemmas.List.{get_or-map}
 use Rattle.std.proofs.lemmas.List.Sums.{sum_by_more}
 use Rattle.list_laws.proofs.Counts.{one_if}
-use Rattle.wire_table.specs.Items.{Item, item_of}
+use Rattle.wire_table.specs.Items.{Item}
+use Rattle.wire_table.specs.CodeItems.{item_of}
 use Rattle.wire_table.specs.declared.item.Item as code
 use Rattle.wire_table.specs.declared.item.ItemKind.{ItemKind}
 use Rattle.wire_table.specs.declared.item.ItemKind.TheVariants.{Internal}

@@ -12,7 +12,8 @@ use Rattle.gadget_tree.specs.Gadgets.{IsGadget}
 use Rattle.list_laws.proofs.Members.{AllPairs-append}
 use Rattle.list_laws.proofs.Once.{Once, Contains-from_filter}
 use Rattle.tuple_model.specs.Limits.{most_items}
-use Rattle.wire_table.specs.Items.{Item, ObservesFew, HasVariablesBelow, numbers, output_index, kind_of}
+use Rattle.wire_table.specs.Items.{Item, numbers, output_index, kind_of}
+use Rattle.wire_table.specs.CodeItems.{ObservesFew, HasVariablesBelow}
 use Rattle.wire_table.proofs.Pigeonhole.{length-le}
 use Rattle.notions.specs.declared.notion.Notion.{Notion}
 use Rattle.notions.specs.Inside.{HasSmallIndex, IsSmallKind}

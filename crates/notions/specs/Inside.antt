@@ -5,7 +5,8 @@ use Rattle.gadget_model.specs.Simulation.{HasShare}
 use Rattle.gadget_tree.specs.Gadgets.{IsGadget}
 use Rattle.tuple_model.specs.Limits.{most_items, most_size}
 use Rattle.wire_table.specs.Tables.{StandsFor}
-use Rattle.wire_table.specs.Items.{Item, item_of, ObservesFew, HasVariablesBelow}
+use Rattle.wire_table.specs.Items.{Item}
+use Rattle.wire_table.specs.CodeItems.{item_of, ObservesFew, HasVariablesBelow}
 use Rattle.wire_table.specs.declared.item.Item as code
 use Rattle.wire_table.specs.declared.item.ItemKind.{ItemKind}
 use Rattle.wire_table.specs.declared.item.ItemKind.TheVariants.{Internal, Output}

@@ -55,12 +55,6 @@ pub record Fails (notion : Notion) (g : Circuit) (t : ℕ) (items : List Item) (
   pub not_simulatable :
       (set : ℕ) → Grants notion g t items tuple set → IsSimulatable g (variables_in items tuple) set → ⊥
 
--- A tuple doesn't fail: it has more than t items, or some set that the notion grants simulates its variables.
-abbrev pub Passes : Notion → Circuit → ℕ → List Item → List ℕ → Type 0
-Passes notion g t items tuple =
-    (t < length tuple)
-    ⊎ ((set : ℕ) × Grants notion g t items tuple set × IsSimulatable g (variables_in items tuple) set)
-
 -- Strong non-interference speaks of gadgets with one output.
 abbrev pub HasTooManyOutputs : Notion → Circuit → Type 0
 HasTooManyOutputs notion g = (notion ≡ Sni) × (1 < length g.outputs)

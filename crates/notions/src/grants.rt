@@ -5,7 +5,7 @@ ghost use Rattle.gadget_limits.specs.Limits.{most_inputs, most_shares};
 ghost use Rattle.gadget_model.specs.Circuit.{Circuit};
 ghost use Rattle.gadget_model.specs.Simulation.{HasShare};
 ghost use Rattle.tuple_model.specs.Limits.{most_size};
-ghost use Rattle.wire_table.specs.Items.{item_of};
+ghost use Rattle.wire_table.specs.CodeItems.{item_of};
 ghost use Rattle.wire_table.specs.declared.item.ItemKind.TheVariants.{Output};
 ghost use Rattle.notions.specs.Notions.{Grants, HasOutput, internal_count, is_internal};
 ghost use Rattle.needed.specs.ShareCounts.{shares_of};

@@ -2,7 +2,8 @@
 
 ghost use Rattle.std.specs.Prelude.{◌≡◌, ◌<◌, length, map, IfOk, OnOk};
 ghost use Rattle.std.specs.List.{range_with_len};
-ghost use Rattle.wire_table.specs.Items.{item_of, numbers};
+ghost use Rattle.wire_table.specs.Items.{numbers};
+ghost use Rattle.wire_table.specs.CodeItems.{item_of};
 ghost use Rattle.notions.specs.Items.{items_of, variable_item, column_item, inner_numbers};
 ghost use Rattle.notions.specs.Inside.{GetsItems};
 

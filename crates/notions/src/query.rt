@@ -4,9 +4,9 @@ ghost use Rattle.std.specs.Prelude.{◌≡◌, ◌↔◌, ◌+◌, ◌≤◌, If
 ghost use Rattle.tuple_model.specs.Tuples.{IsTuple};
 ghost use Rattle.tuple_model.specs.Limits.{most_size};
 ghost use Rattle.wire_table.specs.Tables.{StandsFor};
-ghost use Rattle.wire_table.specs.Items.{item_of};
-ghost use Rattle.notions.specs.Notions.{HasTooManyOutputs, Passes};
-ghost use Rattle.notions.specs.Questions.{FailsFor, items_asked};
+ghost use Rattle.wire_table.specs.CodeItems.{item_of};
+ghost use Rattle.notions.specs.Notions.{HasTooManyOutputs};
+ghost use Rattle.notions.specs.Questions.{FailsFor, items_asked, Passes};
 
 use crate::grants::is_granted;
 use crate::items::items_of;

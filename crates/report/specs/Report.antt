@@ -1,11 +1,10 @@
 -- The text of a report.
-use Rattle.std.specs.Prelude.{ℕ, ◌<◌, ◌≤◌, ◌==◌, if◌then◌else◌, Bool, true, false, List, [], ◌∷◌, ◌++◌}
-use Rattle.std.specs.Prelude.{length, map, All, flat_map, codes, decimal, slice_index_or}
+use Rattle.std.specs.Prelude.{ℕ, ◌==◌, if◌then◌else◌, Bool, true, false, List, [], ◌∷◌, ◌++◌}
+use Rattle.std.specs.Prelude.{length, map, flat_map, codes, decimal, slice_index_or}
 use Rattle.gadget_model.specs.Circuit.{Circuit}
 use Rattle.wire_table.specs.Items.{Item}
 use Rattle.wire_table.specs.Whiches.{which_word}
 use Rattle.wire_table.specs.declared.which.Which.{Which}
-use Rattle.wire_table.specs.declared.which.Which.TheVariants.{Any, Input, Both}
 use Rattle.tallies.specs.declared.tally.Label.{Label}
 use Rattle.tallies.specs.declared.tally.Label.TheVariants as label
 use Rattle.tallies.specs.declared.tally.Cell.{Cell}
@@ -89,13 +88,3 @@ label_words items (label.Item item) = codes "tally item " ++ name_or_number item
 unfoldable pub tally_line : List Item → Cell → List ℕ
 tally_line items cell =
     if cell.count == 0 then [] else label_words items cell.label ++ codes " " ++ decimal cell.count ++ newline
-
--- No event asks of an input past the second, and no word tells such an input from the second.
-abbrev pub HasOwnWord : Which → Type 0
-HasOwnWord Any = Unit {0}
-HasOwnWord (Input k) = k ≤ 1
-HasOwnWord Both = Unit {0}
-
--- the items of a tuple are numbers of these
-abbrev pub AreAmong : List Item → List ℕ → Type 0
-AreAmong items tuple = All (λ i. i < length items) tuple

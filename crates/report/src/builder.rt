@@ -2,14 +2,14 @@
 
 ghost use Rattle.std.specs.Prelude.{◌≡◌, ◌<◌, false, [], ◌++◌, length, map, All, IfOk, OnOk, OnErr, codes, string_bytes, decimal};
 ghost use Rattle.mask_terms.specs.Tasks.{is_demo};
-ghost use Rattle.wire_table.specs.Items.{item_of};
+ghost use Rattle.wire_table.specs.CodeItems.{item_of};
 ghost use Rattle.wire_table.specs.Whiches.{which_word};
-ghost use Rattle.report.specs.Report.{AreAmong, head, event_line, item_name, fail_line, fail_lines, verdict};
+ghost use Rattle.report.specs.Report.{head, event_line, item_name, fail_line, fail_lines, verdict};
 ghost use Rattle.report.specs.Report.{check_line as check_line_of, gadget_line as gadget_line_of};
 ghost use Rattle.report.specs.Report.{space_line as space_line_of, wires_line as wires_line_of};
-ghost use Rattle.report.specs.Report.{newline, spaced, coefficients_line, greatest_line, HasOwnWord};
+ghost use Rattle.report.specs.Report.{newline, spaced, coefficients_line, greatest_line};
 ghost use Rattle.report.specs.Report.{name_or_number, label_words as label_words_of, tally_line};
-ghost use Rattle.report.specs.Additions.{Appends};
+ghost use Rattle.report.specs.Additions.{Appends, AreAmong, HasOwnWord};
 
 use antichain_list::Antichain;
 use gadget_tree::{Gadget, Name};

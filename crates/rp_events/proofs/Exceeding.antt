@@ -12,7 +12,8 @@ use Rattle.wire_table.specs.declared.which.Which.TheVariants.{Any, Input, Both}
 use Rattle.needed.specs.ShareCounts.{shares_of}
 use Rattle.needed.proofs.ShareCounts.{shares_of-within}
 use Rattle.rp_events.specs.Events.{Event}
-use Rattle.rp_events.specs.Failing.{Exceeds, FailsEvent, PassesEvent, shares_in}
+use Rattle.rp_events.specs.Failing.{Exceeds, FailsEvent, shares_in}
+use Rattle.rp_events.specs.Questions.{PassesEvent}
 use Rattle.rp_events.specs.Inside.{AllExceed, SomeDoNotExceed}
 
 -- a larger set has more shares of an input, too

@@ -10,8 +10,7 @@ use Rattle.wire_table.specs.declared.which.Which.TheVariants.{Any, Input, Both}
 use Rattle.rp_events.specs.declared.rp.Rp.{Rp}
 use Rattle.rp_events.specs.declared.rp.Rp.TheVariants.{Rpc, Rpe}
 use Rattle.rp_events.specs.Events.{Event, event_with, events_of, exact_choices, mode_choices, selections, whiches}
-use Rattle.rp_events.specs.Failing.{AreOutputSets}
-use Rattle.rp_events.specs.Questions.{IsEventOf, IsSmallWhich}
+use Rattle.rp_events.specs.Questions.{IsEventOf, IsSmallWhich, AreOutputSets}
 
 -- what holds of all parts holds of them joined
 All-flat_map : {X Y : Type 0} (P : Y → Type 0) (f : X → List Y) → ((x : X) → All P (f x)) → (xs : List X) → All P (flat_map f xs)

@@ -5,12 +5,13 @@ use Rattle.std.proofs.lemmas.List.Elements.{All-map, All-weaker}
 use Rattle.gadget_model.specs.Circuit.{Circuit}
 use Rattle.gadget_tree.proofs.StepsMake.{All-from_map}
 use Rattle.wire_table.specs.Tables.{Table, StandsFor}
-use Rattle.wire_table.specs.Items.{Item, item_of, variables_in}
+use Rattle.wire_table.specs.Items.{Item, variables_in}
+use Rattle.wire_table.specs.CodeItems.{item_of}
 use Rattle.wire_table.specs.declared.item.Item as code
 use Rattle.needed.specs.Others.{most_others}
 use Rattle.rp_events.specs.declared.query.EventQuery.TheInside.{Inside}
-use Rattle.rp_events.specs.Failing.{IsOutputSet, PassesEvent, shares_in}
-use Rattle.rp_events.specs.Questions.{EventQuestion, FailsAsked, leaking_items}
+use Rattle.rp_events.specs.Failing.{shares_in}
+use Rattle.rp_events.specs.Questions.{EventQuestion, FailsAsked, leaking_items, IsOutputSet, PassesEvent}
 use Rattle.rp_events.specs.Inside.{event_asked, IsPreparedEvent, AllExceed, SomeDoNotExceed}
 use Rattle.rp_events.proofs.Exceeding.{numbers_held, FailsEvent-all, PassesEvent-some, not_FailsEvent-from_PassesEvent}
 use Rattle.rp_events.proofs.OutputShares.{length-shares_in-le, shares_in-below}

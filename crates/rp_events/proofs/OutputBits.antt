@@ -15,7 +15,7 @@ use Rattle.wire_table.specs.declared.which.Which.{Which}
 use Rattle.rp_events.specs.declared.rp.Rp.{Rp}
 use Rattle.rp_events.specs.declared.rp.Rp.TheVariants.{Rpc, Rpe}
 use Rattle.rp_events.specs.Events.{Given, chosen, selections, set_from, event_with}
-use Rattle.rp_events.specs.Failing.{IsOutputSet, AreOutputSets}
+use Rattle.rp_events.specs.Questions.{IsOutputSet, AreOutputSets}
 use Rattle.rp_events.specs.Choices.{shares_at, each_which, events_by, modes_of, whiches_of, events_from}
 use Rattle.rp_events.proofs.ShareSums.{shares_at-cons, shares_at-room}
 use Rattle.rp_events.proofs.SelectedEvents.{All-selections, lengths-selections}

@@ -13,7 +13,8 @@ use Rattle.std.proofs.lemmas.List.Sums.{length-filter, count_by-le-length}
 use Rattle.gadget_model.specs.Circuit.{Circuit}
 use Rattle.gadget_tree.specs.Gadgets.{IsGadget}
 use Rattle.needed.specs.Others.{most_others}
-use Rattle.rp_events.specs.Failing.{IsOutputSet, output_variable, shares_in}
+use Rattle.rp_events.specs.Failing.{output_variable, shares_in}
+use Rattle.rp_events.specs.Questions.{IsOutputSet}
 
 pub length-shares_in-le : (g : Circuit) (set : ℕ) → length (shares_in g set) ≤ most_others
 length-shares_in-le g set =

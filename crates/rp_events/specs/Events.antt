@@ -1,7 +1,7 @@
 -- The events of random probing: what of the outputs has to be simulated beside the leaking wires, and from which input
 -- shares it may not be (after Belaïd, Coron, Prouff, Rivain and Taleb, CRYPTO 2020; the events that are counted, and
 -- how the simulator chooses, are this project's own).
-use Rattle.std.specs.Prelude.{◌≡◌, ◌≢◌, ℕ, ◌+◌, ◌*◌, ◌-◌, ◌^◌, ◌==◌, Bool, false, List, [], ◌∷◌, ◌++◌, length, map, flat_map, codes, if◌then◌else◌, nat_lt, nat_le, slice_index_or, replicate, Option, Some, None, Result, Ok, Err}
+use Rattle.std.specs.Prelude.{ℕ, ◌+◌, ◌*◌, ◌-◌, ◌^◌, ◌==◌, Bool, false, List, [], ◌∷◌, ◌++◌, length, map, flat_map, codes, if◌then◌else◌, nat_lt, nat_le, slice_index_or, replicate, Option, Some, None}
 use Rattle.std.specs.List.{sum}
 use Rattle.gadget_model.specs.Circuit.{Circuit}
 use Rattle.gadget_tree.specs.Variables.{name_at}
@@ -12,8 +12,7 @@ use Rattle.wire_table.specs.declared.which.Which.TheVariants.{Any, Input, Both}
 use Rattle.rp_events.specs.declared.rp.Rp.{Rp}
 use Rattle.rp_events.specs.declared.rp.Rp.TheVariants.{Rpc, Rpe}
 use Rattle.rp_events.specs.declared.rp.RpError.{RpError}
-use Rattle.rp_events.specs.declared.rp.RpError.TheVariants.{ManyInputs, OrderTooLarge, ManyEvents, OutOfMemory}
-use Rattle.rp_events.specs.declared.event.Event as code
+use Rattle.rp_events.specs.declared.rp.RpError.TheVariants.{ManyInputs, OrderTooLarge, ManyEvents}
 
 -- An event: its name in reports; the sets of output shares of which one has to be simulated beside the leaking wires,
 -- each with bit 16 * output + index for a share; and of which inputs too many shares may not be needed.
@@ -21,10 +20,6 @@ pub record Event : Type 0 where
   pub name : List ℕ
   pub sets : List ℕ
   pub which : Which
-
--- an event of the code's
-abbrev pub event_of : code.Event → Event
-event_of event = record { name = event.name; sets = event.sets.items; which = event.which }
 
 -- what is given of an output: exactly the shares with these indices, or all but one, which the simulator chooses
 pub data Given : Type 0 where
@@ -135,8 +130,3 @@ refusal rp g t =
     else if has_large_order rp g t then Some OrderTooLarge
     else if nat_lt most_events (event_count rp g t) then Some (ManyEvents (event_count rp g t))
     else None
-
--- The events, or why there are none, want of memory aside.
-abbrev pub GivesEvents : Rp → Circuit → ℕ → Result (List Event) RpError → Type 0
-GivesEvents rp g t (Ok events) = (refusal rp g t ≡ None) × (events ≡ events_of rp g t)
-GivesEvents rp g t (Err error) = error ≢ OutOfMemory → refusal rp g t ≡ Some error

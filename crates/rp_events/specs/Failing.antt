@@ -1,5 +1,5 @@
 -- When a tuple of leaking wires fails for an event.
-use Rattle.std.specs.Prelude.{◌≡◌, ℕ, ◌/◌, ◌%◌, ◌+◌, ◌*◌, ◌<◌, ◌==◌, List, ◌++◌, length, map, All, Contains, slice_index_or}
+use Rattle.std.specs.Prelude.{ℕ, ◌/◌, ◌%◌, ◌+◌, ◌*◌, ◌<◌, ◌==◌, List, ◌++◌, length, map, Contains, slice_index_or}
 use Rattle.std.specs.Int.{bit_at}
 use Rattle.std.specs.List.{filter, range_with_len}
 use Rattle.gadget_model.specs.Circuit.{Circuit}
@@ -34,16 +34,3 @@ abbrev pub FailsEvent : Circuit → ℕ → Event → List Item → List ℕ →
 FailsEvent g t event items tuple =
     (outputs : ℕ) → Contains event.sets outputs →
     (set : ℕ) → IsSimulatable g (simulated g items tuple outputs) set → Exceeds g t event.which set
-
--- A tuple passes: some set of the event's output shares is simulated with it from input shares that don't exceed.
-abbrev pub PassesEvent : Circuit → ℕ → Event → List Item → List ℕ → Type 0
-PassesEvent g t event items tuple =
-    (outputs : ℕ) × Contains event.sets outputs
-    × (set : ℕ) × IsSimulatable g (simulated g items tuple outputs) set × (Exceeds g t event.which set → ⊥)
-
--- each bit of a set stands for a share of an output
-abbrev pub IsOutputSet : Circuit → ℕ → Type 0
-IsOutputSet g set = (k : ℕ) → bit_at set k ≡ 1 → (k / 16 < length g.outputs) × (k % 16 < g.shares)
-
-abbrev pub AreOutputSets : Circuit → Event → Type 0
-AreOutputSets g event = All (IsOutputSet g) event.sets

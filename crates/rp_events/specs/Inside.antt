@@ -5,14 +5,12 @@ use Rattle.gadget_model.specs.Simulation.{IsSimulatable}
 use Rattle.gadget_tree.specs.Gadgets.{IsGadget}
 use Rattle.tuple_model.specs.Limits.{most_items, most_size}
 use Rattle.wire_table.specs.Tables.{StandsFor}
-use Rattle.wire_table.specs.CodeItems.{HasSmallWeight}
-use Rattle.wire_table.specs.Items.{item_of, ObservesFew, HasVariablesBelow}
+use Rattle.wire_table.specs.CodeItems.{HasSmallWeight, item_of, ObservesFew, HasVariablesBelow}
 use Rattle.wire_table.specs.Uses.{wire_items}
 use Rattle.wire_table.specs.declared.which.Which.{Which}
 use Rattle.rp_events.specs.declared.query.EventQuery.TheInside.{Inside}
-use Rattle.rp_events.specs.Events.{event_of}
 use Rattle.rp_events.specs.Failing.{Exceeds, shares_in}
-use Rattle.rp_events.specs.Questions.{EventQuestion, IsEventOf}
+use Rattle.rp_events.specs.Questions.{EventQuestion, IsEventOf, event_of}
 
 abbrev pub event_asked : Inside → EventQuestion
 event_asked q = record {
@@ -35,9 +33,9 @@ SomeDoNotExceed g t which variables lists =
     (others : List ℕ) × Contains lists others
     × (set : ℕ) × IsSimulatable g (variables ++ others) set × (Exceeds g t which set → ⊥)
 
--- The table stands for the gadget, the size is small, the event is of the gadget, the items are the wires', and the lists
--- of output shares are those of the event's sets. The items are few, each fits what the test works in, and each stands for
--- few wires.
+-- The table stands for the gadget, the size is small, the event is of the gadget, the items are the wires', and the
+-- lists of output shares are those of the event's sets. The items are few, each fits what the test works in, and each
+-- stands for few wires.
 pub record IsPreparedEvent (q : Inside) : Type 0 where
   pub gadget : IsGadget q.gadget.now
   pub table : StandsFor q.table.now q.gadget.now

@@ -3,8 +3,8 @@
 ghost use Rattle.std.specs.Prelude.{◌≡◌, ◌++◌, ◌≤◌, Ok, Err, MatchResult, IfOk, OnOk};
 ghost use Rattle.std.specs.Prelude.{All, flat_map, length, map, replicate};
 ghost use Rattle.gadget_limits.specs.Limits.{most_outputs};
-ghost use Rattle.rp_events.specs.Events.{GivesEvents, event_of, event_with, selections};
-ghost use Rattle.rp_events.specs.Questions.{IsEventOf};
+ghost use Rattle.rp_events.specs.Events.{event_with, selections};
+ghost use Rattle.rp_events.specs.Questions.{IsEventOf, GivesEvents, event_of};
 ghost use Rattle.rp_events.specs.Choices.{IsChoice, events_by, events_from, given_of, modes_of};
 
 use crate::choices::{Choice, exact_choices};

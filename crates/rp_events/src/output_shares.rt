@@ -1,7 +1,8 @@
 //! The variables of sets of output shares.
 
 ghost use Rattle.std.specs.Prelude.{◌≡◌, All, IfOk, map};
-ghost use Rattle.rp_events.specs.Failing.{IsOutputSet, shares_in};
+ghost use Rattle.rp_events.specs.Failing.{shares_in};
+ghost use Rattle.rp_events.specs.Questions.{IsOutputSet};
 
 use gadget_tree::Gadget;
 use mask_bytes::OutOfMemory;

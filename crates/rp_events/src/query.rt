@@ -4,11 +4,8 @@ ghost use Rattle.std.specs.Prelude.{◌≡◌, ◌+◌, ◌≤◌, All, IfOk, Is
 ghost use Rattle.tuple_model.specs.Tuples.{IsTuple};
 ghost use Rattle.tuple_model.specs.Limits.{most_size};
 ghost use Rattle.wire_table.specs.Tables.{StandsFor};
-ghost use Rattle.wire_table.specs.CodeItems.{HasSmallWeight};
-ghost use Rattle.wire_table.specs.Items.{item_of};
-ghost use Rattle.rp_events.specs.Events.{event_of};
-ghost use Rattle.rp_events.specs.Failing.{PassesEvent};
-ghost use Rattle.rp_events.specs.Questions.{FailsAsked, IsEventOf, leaking_items};
+ghost use Rattle.wire_table.specs.CodeItems.{HasSmallWeight, item_of};
+ghost use Rattle.rp_events.specs.Questions.{FailsAsked, IsEventOf, leaking_items, PassesEvent, event_of};
 
 use crate::event::Event;
 use crate::exceeds::all_exceed;

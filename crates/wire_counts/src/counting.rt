@@ -4,7 +4,7 @@ ghost use Rattle.std.specs.Prelude.{◌≡◌, ℕ, ◌+◌, ◌*◌, ◌-◌, �
 ghost use Rattle.tuple_model.specs.Limits.{most_items, most_size};
 ghost use Rattle.tuple_model.specs.Tuples.{IsTuple, tuples};
 ghost use Rattle.tuple_model.specs.Antichains.{Covers};
-ghost use Rattle.wire_table.specs.Items.{item_of};
+ghost use Rattle.wire_table.specs.CodeItems.{item_of};
 ghost use Rattle.wire_counts.specs.Coefficients.{AreCoefficients, IsCoefficient, weights_of};
 ghost use Rattle.wire_counts.specs.Limits.{most_weight};
 ghost use Rattle.wire_counts.specs.Ways.{AddsSets, AreAdded, AreCounted, IsWithinLimits, sets_with};

@@ -12,7 +12,8 @@ use Rattle.gadget_tree.specs.Seen.{variable_of, variables_of}
 use Rattle.gadget_tree.specs.Variables.{name_at}
 use Rattle.wire_table.specs.declared.item.Item as code
 use Rattle.wire_table.specs.declared.item.ItemKind.TheVariants.{Internal}
-use Rattle.wire_table.specs.Items.{Item, item_of, kind_of, output_index, variables_in, weighted_item, HasVariablesBelow}
+use Rattle.wire_table.specs.Items.{Item, kind_of, output_index, variables_in, weighted_item}
+use Rattle.wire_table.specs.CodeItems.{item_of, HasVariablesBelow}
 
 module _ (list : List code.Item) (i : ℕ) (item : code.Item) (l : i < length list) (is : item ≡ get_or list i item) where
   pub item_at : get_or (map item_of list) i (item_of item) ≡ item_of item

@@ -13,8 +13,8 @@ use Rattle.list_laws.proofs.Once.{Contains-from_filter}
 use Rattle.std.proofs.lemmas.Bool.{ltb-true}
 use Rattle.mask_terms.specs.declared.wires.Wires.{Wires}
 use Rattle.mask_terms.specs.declared.wires.Wires.TheVariants.{Plain, Copies}
-use Rattle.wire_table.specs.CodeItems.{HasSmallWeight}
-use Rattle.wire_table.specs.Items.{Item, output_index, weighted_item, numbers, ObservesFew, HasVariablesBelow}
+use Rattle.wire_table.specs.CodeItems.{HasSmallWeight, ObservesFew, HasVariablesBelow}
+use Rattle.wire_table.specs.Items.{Item, output_index, weighted_item, numbers}
 use Rattle.wire_table.specs.Tables.{Table, StandsFor}
 use Rattle.wire_table.specs.Uses.{operands, uses_of, wire_count, weight_of, wire_items}
 use Rattle.wire_table.proofs.OutputPlaces.{is_output}

@@ -1,12 +1,10 @@
 -- What sets of probes, or of leaking wires, are made of.
-use Rattle.std.specs.Prelude.{ℕ, ◌%◌, ◌<◌, ◌≤◌, ◌==◌, All, List, [], ◌∷◌, length, map, flat_map, slice_index_or, Option, Some, None, option_map}
+use Rattle.std.specs.Prelude.{ℕ, ◌%◌, ◌==◌, List, [], ◌∷◌, length, map, flat_map, slice_index_or, Option, Some, None, option_map}
 use Rattle.std.specs.List.{position, range_with_len}
-use Rattle.gadget_limits.specs.Limits.{most_outputs}
 use Rattle.gadget_model.specs.Circuit.{Circuit}
 use Rattle.gadget_tree.specs.Variables.{name_at}
 use Rattle.wire_table.specs.declared.item.ItemKind.{ItemKind}
 use Rattle.wire_table.specs.declared.item.ItemKind.TheVariants.{Internal, Output}
-use Rattle.wire_table.specs.declared.item.Item as code
 
 -- An item: its name in reports, the variables that it observes, whether it is a share of an output, and for how many
 -- wires it stands.
@@ -15,10 +13,6 @@ pub record Item : Type 0 where
   pub variables : List ℕ
   pub kind : ItemKind
   pub weight : ℕ
-
--- an item of the code's
-abbrev pub item_of : code.Item → Item
-item_of item = record { name = item.name; variables = item.vars.items; kind = item.kind; weight = item.weight }
 
 -- the variables of a tuple's items, one item after the other
 abbrev pub variables_in : List Item → List ℕ → List ℕ
@@ -45,11 +39,3 @@ weighted_item g weight v = record {
 -- the numbers of the gadget's variables
 abbrev pub numbers : Circuit → List ℕ
 numbers g = range_with_len 0 (length g.variables)
-
--- an item observes at most one share of each output
-abbrev pub ObservesFew : Item → Type 0
-ObservesFew item = length item.variables ≤ most_outputs
-
--- an item observes variables with numbers below a bound
-abbrev pub HasVariablesBelow : ℕ → Item → Type 0
-HasVariablesBelow bound item = All (λ v. v < bound) item.variables

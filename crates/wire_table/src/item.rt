@@ -2,7 +2,8 @@
 
 ghost use Rattle.std.specs.Prelude.{◌≡◌, ◌<◌, length, IfOk};
 ghost use Rattle.gadget_tree.specs.Gadgets.{IsGadget};
-ghost use Rattle.wire_table.specs.Items.{item_of, kind_of, output_index, weighted_item};
+ghost use Rattle.wire_table.specs.Items.{kind_of, output_index, weighted_item};
+ghost use Rattle.wire_table.specs.CodeItems.{item_of};
 
 use gadget_tree::{Gadget, Name};
 use mask_bytes::OutOfMemory;

@@ -2,8 +2,7 @@
 
 ghost use Rattle.std.specs.Prelude.{◌≡◌, ◌*◌, ◌<◌, ◌≤◌, ◌^◌, ℕ, Option, is_some, All, IfOk, length, map};
 ghost use Rattle.gadget_limits.specs.Limits.{most_variables};
-ghost use Rattle.wire_table.specs.CodeItems.{HasSmallWeight};
-ghost use Rattle.wire_table.specs.Items.{item_of};
+ghost use Rattle.wire_table.specs.CodeItems.{HasSmallWeight, item_of};
 ghost use Rattle.wire_table.specs.Tables.{StandsFor};
 ghost use Rattle.wire_table.specs.Uses.{wire_count, wire_items};
 

@@ -1,6 +1,6 @@
 use Rattle.std.proofs.Common.{◌∙◌, List, ℕ, ◌++◌, map, ap}
-use Rattle.wire_table.specs.Items.{item_of}
-use Rattle.rp_events.specs.Events.{event_of}
+use Rattle.wire_table.specs.CodeItems.{item_of}
+use Rattle.rp_events.specs.Questions.{event_of}
 use Rattle.report.specs.Report.{coefficients_line, event_line, fail_lines}
 use Rattle.mask_check.proofs.EventLines.{added_parts}
 use Rattle.mask_check.proofs.event_answers.add_event.Goals as goal

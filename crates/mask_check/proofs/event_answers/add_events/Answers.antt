@@ -2,8 +2,8 @@ use Rattle.std.proofs.Common.{◌++◌, map}
 use Rattle.std.specs.Slice.Iter.{iter_rest}
 use Rattle.std.specs.Iterator.Adapters.{zip_first, zip_second}
 use Rattle.std.proofs.lemmas.Slice.Zip.{Zip-more, either_empty_from_Zip}
-use Rattle.wire_table.specs.Items.{item_of}
-use Rattle.rp_events.specs.Events.{event_of}
+use Rattle.wire_table.specs.CodeItems.{item_of}
+use Rattle.rp_events.specs.Questions.{event_of}
 use Rattle.mask_check.specs.Report.{answer_lines}
 use Rattle.mask_check.specs.Decisions.{answer_of, event_questions}
 use Rattle.mask_check.proofs.EventLines.{IsOfItems-next, answer_lines-next, answer_lines-done}

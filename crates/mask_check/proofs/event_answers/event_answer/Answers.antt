@@ -1,9 +1,9 @@
 use Rattle.std.proofs.Common.{◌≡◌, ℕ, List, map, ap, sym, subst}
-use Rattle.wire_table.specs.Items.{Item, item_of}
+use Rattle.wire_table.specs.Items.{Item}
+use Rattle.wire_table.specs.CodeItems.{item_of}
 use Rattle.tuple_model.specs.Antichains.{Covers}
 use Rattle.wire_counts.specs.Coefficients.{AreCoefficients, weights_of}
-use Rattle.rp_events.specs.Events.{event_of}
-use Rattle.rp_events.specs.Questions.{EventQuestion, leaking_items}
+use Rattle.rp_events.specs.Questions.{EventQuestion, leaking_items, event_of}
 use Rattle.mask_check.specs.Questions.{QuestionAnswer}
 use Rattle.mask_check.proofs.Asking.{IsAnswerTo-event}
 use Rattle.mask_check.proofs.EventLines.{small_weights}

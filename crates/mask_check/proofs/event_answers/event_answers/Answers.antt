@@ -1,8 +1,7 @@
 use Rattle.std.proofs.Common.{◌≡◌, ◌∙◌, ◌+◌, List, [], ◌∷◌, ◌++◌, take, ap, sym, subst}
 use Rattle.std.proofs.lemmas.List.{take_more}
 use Rattle.gadget_tree.proofs.StepsMake.{All-from_map}
-use Rattle.rp_events.specs.Events.{event_of}
-use Rattle.rp_events.specs.Questions.{IsEventOf}
+use Rattle.rp_events.specs.Questions.{IsEventOf, event_of}
 use Rattle.rp_events.specs.declared.event.Event as code
 use Rattle.mask_check.proofs.EventLines.{AreAnswersTo-more}
 use Rattle.mask_check.proofs.event_answers.event_answers.Goals as goal

@@ -1,5 +1,5 @@
 use Rattle.std.proofs.Common.{map, take}
-use Rattle.rp_events.specs.Events.{event_of}
+use Rattle.rp_events.specs.Questions.{event_of}
 use Rattle.mask_check.specs.Decisions.{answer_of, AreAnswersTo}
 use Rattle.mask_check.proofs.event_answers.event_answers.Given as goal
 

@@ -1,5 +1,5 @@
 use Rattle.std.proofs.Common.{◌≡◌, ◌++◌, flat_map, map, take}
-use Rattle.rp_events.specs.Events.{event_of}
+use Rattle.rp_events.specs.Questions.{event_of}
 use Rattle.mask_check.specs.Report.{coefficients_for, greatest_of, greatest_part, reported_whiches}
 use Rattle.mask_check.specs.Decisions.{answer_of, event_questions}
 use Rattle.mask_check.proofs.greatest.add_greatest.Given as goal

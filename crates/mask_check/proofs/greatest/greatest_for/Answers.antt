@@ -2,7 +2,7 @@ use Rattle.std.proofs.Common.{◌∙◌, List, map, option_map, sym}
 use Rattle.std.specs.Slice.Iter.{iter_rest}
 use Rattle.std.specs.Iterator.Adapters.{zip_first, zip_second}
 use Rattle.std.proofs.lemmas.Slice.Zip.{Zip-more, either_empty_from_Zip}
-use Rattle.rp_events.specs.Events.{event_of}
+use Rattle.rp_events.specs.Questions.{event_of}
 use Rattle.mask_check.specs.Report.{coefficients_for, greatest_of}
 use Rattle.mask_check.specs.Decisions.{answer_of, event_questions}
 use Rattle.mask_check.proofs.GreatestNumbers.{greatest_from-event, greatest_from-done}

@@ -1,7 +1,7 @@
 use Rattle.std.proofs.Common.{◌≡◌, map, option_map}
 use Rattle.std.specs.Slice.Iter.{iter_rest}
 use Rattle.std.specs.Iterator.Adapters.{zip_first, zip_second}
-use Rattle.rp_events.specs.Events.{event_of}
+use Rattle.rp_events.specs.Questions.{event_of}
 use Rattle.mask_check.specs.Report.{coefficients_for, greatest_of}
 use Rattle.mask_check.specs.Decisions.{answer_of, event_questions}
 use Rattle.mask_check.proofs.GreatestNumbers.{greatest_from}

@@ -1,10 +1,10 @@
 use Rattle.std.proofs.Common.{◌≡◌, ◌∙◌, ◌≤◌, ◌*◌, ◌^◌, ◌++◌, ℕ, List, length, map, ap, sym, subst, arith, inr, Ok, rules, All, mul-le-mul}
 use Rattle.std.proofs.lemmas.List.{length-map}
 use Rattle.std.proofs.lemmas.Result.{err_from_is_err_and}
-use Rattle.wire_table.specs.Items.{Item, item_of}
-use Rattle.rp_events.specs.Events.{GivesEvents, event_of}
+use Rattle.wire_table.specs.Items.{Item}
+use Rattle.wire_table.specs.CodeItems.{item_of}
 use Rattle.rp_events.specs.declared.event.Event as code
-use Rattle.rp_events.specs.Questions.{IsEventOf}
+use Rattle.rp_events.specs.Questions.{IsEventOf, GivesEvents, event_of}
 use Rattle.report.specs.declared.status.Status.TheVariants.{Listed}
 use Rattle.mask_check.specs.declared.answer.QuestionAnswer as code_answer
 use Rattle.mask_check.specs.Questions.{items as items_of_check}

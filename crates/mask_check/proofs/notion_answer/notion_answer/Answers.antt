@@ -1,5 +1,5 @@
 use Rattle.std.proofs.Common.{◌≡◌, map, rules}
-use Rattle.wire_table.specs.Items.{item_of}
+use Rattle.wire_table.specs.CodeItems.{item_of}
 use Rattle.mask_check.proofs.Asking.{IsNotionAnswer-from}
 use Rattle.mask_check.proofs.notion_answer.notion_answer.Goals as goal
 

@@ -1,5 +1,5 @@
 use Rattle.std.proofs.Common.{◌≡◌, ◌++◌, map, take, flat_map}
-use Rattle.wire_table.specs.Items.{item_of}
+use Rattle.wire_table.specs.CodeItems.{item_of}
 use Rattle.mask_check.specs.Tallying.{tally_lines, state_of}
 use Rattle.mask_check.proofs.tallying.add_tallies.Given as goal
 

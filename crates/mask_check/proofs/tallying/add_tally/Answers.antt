@@ -1,5 +1,5 @@
 use Rattle.std.proofs.Common.{◌≡◌, ◌∙◌, ◌≤◌, ◌<◌, List, ℕ, map, length, sym, append-nil, arith}
-use Rattle.wire_table.specs.Items.{item_of}
+use Rattle.wire_table.specs.CodeItems.{item_of}
 use Rattle.tallies.specs.Counting.{cells}
 use Rattle.report.specs.Report.{tally_line}
 use Rattle.mask_check.proofs.Feeding.{few_cells, lines_more, lines_all, none_left}

@@ -1,5 +1,5 @@
 use Rattle.std.proofs.Common.{◌≡◌, ◌<◌, ◌≤◌, ◌++◌, map, take, flat_map, length}
-use Rattle.wire_table.specs.Items.{item_of}
+use Rattle.wire_table.specs.CodeItems.{item_of}
 use Rattle.tallies.specs.Counting.{cells}
 use Rattle.report.specs.Report.{tally_line}
 use Rattle.mask_check.proofs.tallying.add_tally.Given as goal

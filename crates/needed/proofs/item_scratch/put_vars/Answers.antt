@@ -1,6 +1,7 @@
 use Rattle.std.proofs.Common.{◌≡◌, ◌++◌, ℕ, ap, sym, ◌∙◌, arith, map, length, get_or, [], length-append}
 use Rattle.std.proofs.lemmas.Result.{IfOk-at_ok}
-use Rattle.wire_table.specs.Items.{Item, item_of, ObservesFew}
+use Rattle.wire_table.specs.Items.{Item}
+use Rattle.wire_table.specs.CodeItems.{item_of, ObservesFew}
 use Rattle.wire_table.specs.declared.item.Item as code
 use Rattle.wire_table.proofs.ItemReads.{fact_at, variables_at-list, variables_in-more}
 use Rattle.needed.proofs.item_scratch.put_vars.Goals as goal

@@ -1,5 +1,6 @@
 use Rattle.std.proofs.Common.{◌≡◌, ◌*◌, ◌≤◌, length, map, take}
-use Rattle.wire_table.specs.Items.{item_of, variables_in}
+use Rattle.wire_table.specs.Items.{variables_in}
+use Rattle.wire_table.specs.CodeItems.{item_of}
 use Rattle.needed.proofs.item_scratch.put_vars.Given as goal
 
 abbrev pub invariant-loop-item : goal.invariant-loop-item

@@ -1,5 +1,5 @@
 use Rattle.std.proofs.Common.{ap, sym, ◌∙◌, arith, map}
-use Rattle.wire_table.specs.Items.{item_of}
+use Rattle.wire_table.specs.CodeItems.{item_of}
 use Rattle.list_laws.proofs.Counts.{one_if}
 use Rattle.notions.specs.Notions.{kind_at, is_internal}
 use Rattle.notions.proofs.InternalCounts.{kind_at-list, internal_count-more, from_bool-one_if, one_if-le}

@@ -1,5 +1,5 @@
 use Rattle.std.proofs.Common.{◌≡◌, ◌≤◌, map, take}
-use Rattle.wire_table.specs.Items.{item_of}
+use Rattle.wire_table.specs.CodeItems.{item_of}
 use Rattle.notions.specs.Notions.{internal_count}
 use Rattle.notions.proofs.grants.internal_count.Given as goal
 

@@ -1,6 +1,6 @@
 use Rattle.std.proofs.Common.{◌-◌, ◌↔◌, IsTrue, leb, map, sym, subst, bit_and}
 use Rattle.std.specs.Int.Count.{ones}
-use Rattle.wire_table.specs.Items.{item_of}
+use Rattle.wire_table.specs.CodeItems.{item_of}
 use Rattle.notions.specs.declared.notion.Notion.{Notion}
 use Rattle.notions.specs.Notions.{Grants, internal_count}
 use Rattle.notions.proofs.OtherIndices.{few_others}

@@ -1,7 +1,7 @@
 use Rattle.std.proofs.Common.{◌≡◌, ◌↔◌, ℕ, List, ap, sym, ◌∙◌, arith, map, subst}
 use Rattle.std.proofs.lemmas.List.{take_all}
 use Rattle.gadget_model.specs.Simulation.{HasShare}
-use Rattle.wire_table.specs.Items.{item_of}
+use Rattle.wire_table.specs.CodeItems.{item_of}
 use Rattle.wire_table.specs.declared.item.ItemKind.{ItemKind}
 use Rattle.wire_table.specs.declared.item.ItemKind.TheVariants.{Output}
 use Rattle.notions.specs.Inside.{HasSmallIndex}

@@ -1,6 +1,6 @@
 use Rattle.std.proofs.Common.{ℕ, ◌↔◌, map, take}
 use Rattle.gadget_model.specs.Simulation.{HasShare}
-use Rattle.wire_table.specs.Items.{item_of}
+use Rattle.wire_table.specs.CodeItems.{item_of}
 use Rattle.notions.specs.Notions.{HasOutput}
 use Rattle.notions.proofs.grants.output_indices.Given as goal
 

@@ -1,5 +1,5 @@
 use Rattle.std.proofs.Common.{map}
-use Rattle.wire_table.specs.Items.{item_of}
+use Rattle.wire_table.specs.CodeItems.{item_of}
 use Rattle.notions.specs.Items.{column_item}
 use Rattle.wire_table.proofs.ItemPushes.{push_next}
 use Rattle.notions.proofs.items.extend_columns.Goals as goal

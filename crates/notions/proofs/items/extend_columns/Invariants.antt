@@ -1,6 +1,6 @@
 use Rattle.std.proofs.Common.{◌≡◌, ◌++◌, map}
 use Rattle.std.specs.List.{range_with_len}
-use Rattle.wire_table.specs.Items.{item_of}
+use Rattle.wire_table.specs.CodeItems.{item_of}
 use Rattle.notions.specs.Items.{column_item}
 use Rattle.notions.proofs.items.extend_columns.Given as goal
 

@@ -1,6 +1,7 @@
 use Rattle.std.proofs.Common.{ℕ, map, ◌∙◌}
 use Rattle.std.specs.Prelude.{is_none}
-use Rattle.wire_table.specs.Items.{item_of, output_index}
+use Rattle.wire_table.specs.Items.{output_index}
+use Rattle.wire_table.specs.CodeItems.{item_of}
 use Rattle.notions.specs.Items.{variable_item}
 use Rattle.wire_table.proofs.ItemPushes.{push_kept, skip_left}
 use Rattle.wire_table.proofs.OutputPlaces.{is_inner}

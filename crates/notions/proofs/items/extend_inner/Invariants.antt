@@ -1,7 +1,8 @@
 use Rattle.std.proofs.Common.{◌≡◌, ◌++◌, map}
 use Rattle.std.specs.Prelude.{is_none}
 use Rattle.std.specs.List.{filter, range_with_len}
-use Rattle.wire_table.specs.Items.{item_of, output_index}
+use Rattle.wire_table.specs.Items.{output_index}
+use Rattle.wire_table.specs.CodeItems.{item_of}
 use Rattle.notions.specs.Items.{variable_item}
 use Rattle.notions.proofs.items.extend_inner.Given as goal
 

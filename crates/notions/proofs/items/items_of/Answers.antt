@@ -1,6 +1,7 @@
 use Rattle.std.proofs.Common.{◌++◌, List, map, ap, sym, ◌∙◌}
 use Rattle.std.specs.List.{range_with_len}
-use Rattle.wire_table.specs.Items.{Item, item_of, numbers}
+use Rattle.wire_table.specs.Items.{Item, numbers}
+use Rattle.wire_table.specs.CodeItems.{item_of}
 use Rattle.notions.specs.Items.{variable_item, column_item, inner_numbers}
 use Rattle.notions.proofs.ItemLists.{items_of-with_columns, items_of-all}
 use Rattle.notions.proofs.items.items_of.Goals as goal

@@ -1,7 +1,7 @@
 use Rattle.std.proofs.Common.{◌++◌, length, take, map, ◌∙◌, append_assoc}
 use Rattle.std.specs.Prelude.{codes, decimal, flat_map}
 use Rattle.std.proofs.lemmas.Result.{err_from_is_err_and}
-use Rattle.wire_table.specs.Items.{item_of}
+use Rattle.wire_table.specs.CodeItems.{item_of}
 use Rattle.report.specs.Report.{item_name}
 use Rattle.report.proofs.builder.add_fail_line.Goals as goal
 

@@ -1,6 +1,6 @@
 use Rattle.std.proofs.Common.{◌≡◌, ◌++◌, map, take, length}
 use Rattle.std.specs.Prelude.{codes, decimal, flat_map}
-use Rattle.wire_table.specs.Items.{item_of}
+use Rattle.wire_table.specs.CodeItems.{item_of}
 use Rattle.report.specs.Report.{item_name}
 use Rattle.report.proofs.builder.add_fail_line.Given as goal
 

@@ -2,7 +2,7 @@ use Rattle.std.proofs.Common.{◌++◌, ℕ, List, map, take, sym, ap, ◌∙◌
 use Rattle.std.specs.Prelude.{flat_map}
 use Rattle.std.proofs.lemmas.List.{flat_map_more}
 use Rattle.std.proofs.lemmas.Result.{err_from_is_err_and}
-use Rattle.wire_table.specs.Items.{item_of}
+use Rattle.wire_table.specs.CodeItems.{item_of}
 use Rattle.report.specs.Report.{fail_line, fail_lines}
 use Rattle.report.proofs.Additions.{Extends-after}
 use Rattle.report.proofs.FailLines.{take-one_more}

@@ -1,5 +1,5 @@
 use Rattle.std.proofs.Common.{◌≡◌, ◌++◌, map, take}
-use Rattle.wire_table.specs.Items.{item_of}
+use Rattle.wire_table.specs.CodeItems.{item_of}
 use Rattle.report.specs.Report.{fail_lines}
 use Rattle.report.proofs.builder.add_fail_lines.Given as goal
 

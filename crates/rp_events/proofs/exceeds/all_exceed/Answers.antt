@@ -1,6 +1,7 @@
 use Rattle.std.proofs.Common.{ℕ, List, Vec, Global, ◌∙◌, map, sym, subst, arith}
 use Rattle.std.proofs.lemmas.List.{take_all}
-use Rattle.wire_table.specs.Items.{item_of, variables_in}
+use Rattle.wire_table.specs.Items.{variables_in}
+use Rattle.wire_table.specs.CodeItems.{item_of}
 use Rattle.wire_table.specs.Tables.{Table, StandsFor}
 use Rattle.rp_events.specs.Inside.{AllExceed}
 use Rattle.rp_events.proofs.Exceeding.{numbers_held, AllExceed-more}

@@ -1,7 +1,8 @@
 use Rattle.std.proofs.Common.{◌≡◌, length, map, take}
 use Rattle.gadget_model.specs.Circuit.{Circuit}
 use Rattle.wire_table.specs.Tables.{StandsFor}
-use Rattle.wire_table.specs.Items.{item_of, variables_in}
+use Rattle.wire_table.specs.Items.{variables_in}
+use Rattle.wire_table.specs.CodeItems.{item_of}
 use Rattle.rp_events.specs.Inside.{AllExceed}
 use Rattle.rp_events.proofs.exceeds.all_exceed.Given as goal
 

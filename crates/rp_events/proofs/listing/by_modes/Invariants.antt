@@ -1,6 +1,6 @@
 use Rattle.std.proofs.Common.{◌≡◌, map, take}
 use Rattle.std.specs.Prelude.{flat_map}
-use Rattle.rp_events.specs.Events.{event_of}
+use Rattle.rp_events.specs.Questions.{event_of}
 use Rattle.rp_events.specs.Choices.{events_by, given_of}
 use Rattle.rp_events.proofs.listing.by_modes.Given as goal
 

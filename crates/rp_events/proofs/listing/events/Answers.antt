@@ -2,8 +2,7 @@ use Rattle.std.proofs.Common.{List, [], ◌∷◌, map, ap, subst, sym, ◌∙�
 use Rattle.std.specs.List.{All}
 use Rattle.rp_events.specs.declared.choices.Choice.TheVariants.{AllButOne}
 use Rattle.rp_events.specs.Events.{Given, all_but_one}
-use Rattle.rp_events.specs.Failing.{AreOutputSets}
-use Rattle.rp_events.specs.Events.{event_of}
+use Rattle.rp_events.specs.Questions.{AreOutputSets, event_of}
 use Rattle.rp_events.specs.Choices.{events_from, given_of}
 use Rattle.rp_events.proofs.OutputBits.{IsSmall, of_events_from}
 use Rattle.rp_events.proofs.GadgetEvents.{all_of_gadget}

@@ -1,5 +1,5 @@
 use Rattle.std.proofs.Common.{◌++◌, map, ap, ◌∙◌, arith}
-use Rattle.rp_events.specs.Events.{event_of}
+use Rattle.rp_events.specs.Questions.{event_of}
 use Rattle.rp_events.specs.Choices.{IsChoice, each_which, given_of}
 use Rattle.rp_events.proofs.SelectedEvents.{one_long, one_all, all_made}
 use Rattle.rp_events.proofs.listing.extend_events.Goals as goal

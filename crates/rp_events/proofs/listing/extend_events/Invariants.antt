@@ -1,6 +1,6 @@
 use Rattle.std.proofs.Common.{◌≡◌, ◌++◌, map, take}
 use Rattle.std.specs.Prelude.{flat_map}
-use Rattle.rp_events.specs.Events.{event_of}
+use Rattle.rp_events.specs.Questions.{event_of}
 use Rattle.rp_events.specs.Choices.{each_which, given_of}
 use Rattle.rp_events.proofs.listing.extend_events.Given as goal
 

@@ -4,7 +4,8 @@ use Rattle.std.specs.List.{All}
 use Rattle.list_laws.proofs.Counts.{map-map}
 use Rattle.gadget_tree.proofs.StepsMake.{All-from_map}
 use Rattle.rp_events.specs.declared.choices.Choice.{Choice}
-use Rattle.rp_events.specs.Events.{Given, event_of, selections}
+use Rattle.rp_events.specs.Events.{Given, selections}
+use Rattle.rp_events.specs.Questions.{event_of}
 use Rattle.rp_events.specs.Choices.{IsChoice, given_of, events_by, whiches_of}
 use Rattle.rp_events.proofs.ListedEvents.{map-modes_of, All-modes_of}
 use Rattle.rp_events.proofs.listing.listed.Goals as goal

@@ -1,5 +1,6 @@
 use Rattle.std.proofs.Common.{◌≡◌, ◌++◌, map, take}
-use Rattle.rp_events.specs.Events.{event_of, event_with}
+use Rattle.rp_events.specs.Events.{event_with}
+use Rattle.rp_events.specs.Questions.{event_of}
 use Rattle.rp_events.specs.Choices.{given_of}
 use Rattle.rp_events.proofs.listing.push_each_which.Given as goal
 

@@ -1,5 +1,6 @@
 use Rattle.std.proofs.Common.{sym}
-use Rattle.wire_table.specs.Items.{Item, item_of}
+use Rattle.wire_table.specs.Items.{Item}
+use Rattle.wire_table.specs.CodeItems.{item_of}
 use Rattle.wire_counts.specs.Limits.{most_weight}
 use Rattle.wire_counts.proofs.Walks.{weight-at}
 use Rattle.wire_counts.proofs.binomials.binomials_of.Goals as goal

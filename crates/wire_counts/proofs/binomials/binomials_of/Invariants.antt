@@ -1,5 +1,5 @@
 use Rattle.std.proofs.Common.{◌≡◌, ◌++◌, drop, map}
-use Rattle.wire_table.specs.Items.{item_of}
+use Rattle.wire_table.specs.CodeItems.{item_of}
 use Rattle.wire_counts.specs.Coefficients.{weights_of}
 use Rattle.wire_counts.proofs.binomials.binomials_of.Given as goal
 

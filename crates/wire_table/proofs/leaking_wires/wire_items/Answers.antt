@@ -1,8 +1,8 @@
 use Rattle.std.proofs.Common.{ℕ, Bool, nat_lt, [], All, ap, sym, subst, ◌∙◌, arith, map, length}
 use Rattle.std.proofs.lemmas.List.{length-map}
 use Rattle.std.proofs.lemmas.Bool.{lt-ltb, le-ltb}
-use Rattle.wire_table.specs.CodeItems.{HasSmallWeight}
-use Rattle.wire_table.specs.Items.{Item, item_of, weighted_item}
+use Rattle.wire_table.specs.CodeItems.{HasSmallWeight, item_of}
+use Rattle.wire_table.specs.Items.{Item, weighted_item}
 use Rattle.wire_table.specs.Uses.{weight_of}
 use Rattle.wire_table.proofs.Monomials.{length-variables_of}
 use Rattle.wire_table.proofs.ItemPushes.{push_kept, skip_left}

@@ -1,7 +1,8 @@
 use Rattle.std.proofs.Common.{◌≡◌, map}
 use Rattle.std.specs.Prelude.{nat_lt}
 use Rattle.std.specs.List.{filter, range_with_len}
-use Rattle.wire_table.specs.Items.{item_of, weighted_item}
+use Rattle.wire_table.specs.Items.{weighted_item}
+use Rattle.wire_table.specs.CodeItems.{item_of}
 use Rattle.wire_table.specs.Uses.{weight_of}
 use Rattle.wire_table.proofs.leaking_wires.wire_items.Given as goal
 

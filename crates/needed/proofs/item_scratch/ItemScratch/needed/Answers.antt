@@ -1,7 +1,8 @@
 use Rattle.std.proofs.Common.{◌<◌, ℕ, sym, ◌∙◌, map, length, subst}
 use Rattle.std.specs.List.{All}
 use Rattle.std.proofs.lemmas.List.Elements.{All-append}
-use Rattle.wire_table.specs.Items.{item_of, variables_in, HasVariablesBelow}
+use Rattle.wire_table.specs.Items.{variables_in}
+use Rattle.wire_table.specs.CodeItems.{item_of, HasVariablesBelow}
 use Rattle.wire_table.specs.Tables.{Table}
 use Rattle.wire_table.proofs.ItemReads.{variables_in-below, within_map}
 use Rattle.needed.proofs.item_scratch.ItemScratch.needed.Goals as goal
