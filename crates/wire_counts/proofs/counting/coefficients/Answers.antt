@@ -1,6 +1,6 @@
 use Rattle.std.proofs.Common.{ℕ, ◌+◌, map, replicate, ap, sym, ◌∙◌, subst}
 use Rattle.tuple_model.specs.Antichains.{Covers}
-use Rattle.wire_table.specs.Items.{item_of}
+use Rattle.wire_table.specs.CodeItems.{item_of}
 use Rattle.wire_counts.specs.Coefficients.{AreCoefficients, weights_of}
 use Rattle.wire_counts.proofs.Deciding.{coefficients-empty}
 use Rattle.wire_counts.proofs.counting.coefficients.Goals as goal
