@@ -1,2 +1,3 @@
-//! Laws of lists that the standard library lacks, stated once for all crates. There is no code here: `proofs/` has the lemmas.
+//! Laws of lists that the standard library lacks, stated once for all crates. There is no code here: `proofs/` has the
+//! lemmas.
 #![tactic(auto)]

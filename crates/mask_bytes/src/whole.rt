@@ -12,8 +12,8 @@ use std::alloc::Global;
 /// How many bytes a single read asks for at most.
 const BUFFER_LENGTH: usize = 4096;
 
-/// Reads to the end of the source, up to `max` bytes, of which 1,073,741,824 may be allowed. To tell that there are more
-/// it reads one byte past `max`.
+/// Reads to the end of the source, up to `max` bytes, of which 1,073,741,824 may be allowed. To tell that there are
+/// more it reads one byte past `max`.
 pub fn read_whole<S: Source>(
     alloc: Global,
     source: &mut S,

@@ -98,8 +98,8 @@ fn add_tallies(
 
 // Adds the lines of a tally.
 fn add_tally(items: &[Item], tally: &Box<dyn Tally>, report: &mut Report) -> Result<(), OutOfMemory>
-    ensures { OnOk result
-        (report.new ≡ report.old ++ tally_lines (map item_of items.now) (state_of (kind tally.now) (counts tally.now))) }
+    ensures { OnOk result (report.new ≡ report.old
+        ++ tally_lines (map item_of items.now) (state_of (kind tally.now) (counts tally.now))) }
 {
     for k in 0..MOST_CELLS {
         let Some(cell) = cell_at(tally, k) else {

@@ -3,8 +3,8 @@
 ghost use Rattle.std.specs.Prelude.{◌≡◌, [], ◌∷◌};
 ghost use Rattle.tallies.specs.Counting.{raised_at};
 
-/// Raises the count at a place, if there is such a place. The greatest number of 64 bits stays. A tally by sizes counts a
-/// tuple by it.
+/// Raises the count at a place, if there is such a place. The greatest number of 64 bits stays. A tally by sizes counts
+/// a tuple by it.
 pub fn raise(counts: &mut [u64], place: usize)
     ensures { counts.new ≡ raised_at (place ∷ []) counts.old }
 {

@@ -32,8 +32,8 @@ pub struct Cell {
     pub count: u64,
 }
 
-/// A table of counts, to which tuples are fed. Implementors say which kind it is and what it has counted so far (`kind`,
-/// `counts`).
+/// A table of counts, to which tuples are fed. Implementors say which kind it is and what it has counted so far
+/// (`kind`, `counts`).
 pub trait Tally: Drop {
     ghost use Rattle.tallies.specs.declared.tally.TallyKind.{TallyKind};
 

@@ -24,8 +24,8 @@ use wire_table::Item;
 const BLOCK: u64 = 65_536;
 
 /// For each number of wires up to `size`, how many sets of so many wires have items that the list covers. The tuples
-/// are counted in threads, as many as there are processors and as far as threads can be started. For an empty list, which
-/// covers none, no tuple is looked at.
+/// are counted in threads, as many as there are processors and as far as threads can be started. For an empty list,
+/// which covers none, no tuple is looked at.
 pub fn coefficients<R: Threads + Sync>(
     rt: &R,
     alloc: Global,
