@@ -1,6 +1,8 @@
 -- The greatest numbers of lists, taken one list after the other.
-use Rattle.std.proofs.Common.{◌≡◌, ◌∙◌, ◌⊎◌, inl, inr, ℕ, List, [], ◌∷◌, ◌++◌, map, ap, sym, refl, max, Option, Some, None, Bool, true, false, if◌then◌else◌, append-nil, arith}
+use Rattle.std.proofs.Common.{◌≡◌, ◌∙◌, ◌⊎◌, inl, inr, ℕ, List, [], ◌∷◌, ◌++◌, map, ap, sym, refl, max, Option, Some, None, Bool, true, if◌then◌else◌, append-nil, arith}
 use Rattle.wire_table.specs.declared.which.Which.{Which}
+use Rattle.wire_table.specs.declared.which.Which.TheVariants.{Any, Input, Both}
+use Rattle.wire_table.specs.contracts.which.WhichPartialEq.TheImpl.{eq-value}
 use Rattle.rp_events.specs.declared.event.Event as of_code
 use Rattle.rp_events.specs.Questions.{event_of}
 use Rattle.mask_words.specs.declared.answer.Settings.{Settings}
@@ -40,6 +42,18 @@ greatest_from-more (Some found) numbers rest = ap (λ (ns : List ℕ). Some ns) 
 pub greatest_from-end : (found : Option (List ℕ)) → greatest_from found [] ≡ found
 greatest_from-end None = refl
 greatest_from-end (Some found) = refl
+
+-- the derived equality tells whether two events ask about the same inputs
+pub same_which-is : (a b : Which) → eq-value.it a b ≡ same_which a b
+same_which-is Any Any = refl
+same_which-is Any (Input j) = refl
+same_which-is Any Both = refl
+same_which-is (Input k) Any = refl
+same_which-is (Input k) (Input j) = refl
+same_which-is (Input k) Both = refl
+same_which-is Both Any = refl
+same_which-is Both (Input j) = refl
+same_which-is Both Both = refl
 
 -- the coefficients of a question that is asked for stand before the others
 coefficients_for-asked : (which : Which) (question : Question) (answer : QuestionAnswer) (questions : List Question) (answers : List QuestionAnswer) →
