@@ -1,5 +1,5 @@
 -- The checks that settings ask for, and the files of demonstrations.
-use Rattle.std.proofs.Common.{◌≡◌, ℕ, ◌≤◌, Bool, true, false, List, Option, Some, None, Ok, drop, refl, subst}
+use Rattle.std.proofs.Common.{◌≡◌, ℕ, ◌≤◌, Bool, true, false, List, Some, Ok, drop, refl, subst}
 use Rattle.gadget_maker.specs.Limits.{least_demo_shares, most_demo_shares}
 use Rattle.gadget_maker.specs.Texts.{isw_text, refresh_text}
 use Rattle.mask_terms.specs.Tasks.{is_demo, leaks}
@@ -11,7 +11,7 @@ use Rattle.demo_laws.proofs.DemoFiles.{isw_file, refresh_file}
 use Rattle.mask_words.specs.declared.answer.Settings.{Settings}
 use Rattle.mask_words.specs.Answers.{HasDemoShares, IsWellFormed}
 use Rattle.mask_words.proofs.Shares.{demo_shares}
-use Rattle.mask_check.specs.declared.asked.Asked.TheVariants.{Notion, Leaking}
+use Rattle.mask_check.specs.declared.asked.Asked.TheVariants.{Notion}
 use Rattle.mask_check.specs.Demonstrations.{check_by, check_of, made_by, made_file}
 use Rattle.mask_check.specs.Questions.{asked_by}
 use Rattle.mask_check.specs.Decisions.{IsReady}

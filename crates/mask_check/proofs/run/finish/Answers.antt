@@ -1,4 +1,4 @@
-use Rattle.std.proofs.Common.{◌≡◌, ◌≤◌, ℕ, false, List, length, Ok, rules, refl, sym, subst, map, string_bytes}
+use Rattle.std.proofs.Common.{◌≡◌, ◌≤◌, ℕ, List, length, Ok, rules, refl, sym, subst, map, string_bytes}
 use Rattle.std.specs.Prelude.{Result, IfOk}
 use Rattle.std.proofs.lemmas.Result.{err_from_is_err_and}
 use Rattle.mask_bytes.specs.Flow.{AppendsProperPrefix}
@@ -6,7 +6,6 @@ use Rattle.gadget_text.specs.Limits.{most_file_bytes}
 use Rattle.mask_words.specs.declared.answer.Settings.{Settings}
 use Rattle.mask_words.specs.declared.answer.WordsError.{WordsError}
 use Rattle.mask_words.specs.Answers.{IsWellFormed}
-use Rattle.mask_check.specs.Demonstrations.{check_of}
 use Rattle.mask_check.specs.Tallying.{state_of, tallying_of}
 use Rattle.mask_check.specs.Ends.{words_ask, run_of}
 use Rattle.mask_check.specs.Decisions.{IsReady, Decides, Declines}
@@ -14,17 +13,21 @@ use Rattle.mask_check.proofs.Demos.{IsDemoFile-made, IsReady-from}
 use Rattle.mask_check.proofs.AfterReading.{few_bytes, Ends-lacking, Ends-declined, Ends-file, Ends-table}
 use Rattle.mask_check.proofs.run.finish.Goals as goal
 
+-- what holds of all settings that are given holds of these
+formed_by : (given : Result Settings WordsError) (s : Settings) → given ≡ Ok s → IfOk given IsWellFormed → IsWellFormed s
+formed_by given s is formed = subst (λ (r : Result Settings WordsError). IfOk r IsWellFormed) is formed
+
 pub read_gadget-requires : goal.read_gadget-requires
 read_gadget-requires g c =
     let s = c.in_ok-settings.settings in
-    let formed : IsWellFormed s = search rules in
+    let formed = formed_by c.settings.result s (search rules) c.settings.ensures.well_formed in
     subst (λ (bytes : List ℕ). length bytes ≤ most_file_bytes) (sym c.deref.ensures.value)
     (few_bytes s _ c.in_ok-bytes.bytes.items c.in_ok-bytes.ensures.file.0 (IsDemoFile-made s formed.demo_shares))
 
 pub decide-requires-clause-settings : goal.decide-requires-clause-settings
 decide-requires-clause-settings g c =
     let s = c.in_ok-settings.settings in
-    let formed : IsWellFormed s = search rules in
+    let formed = formed_by c.settings.result s (search rules) c.settings.ensures.well_formed in
     λ κs alive. subst IsReady (sym c.check_of-check.ensures) (IsReady-from s formed)
 
 pub returns-in_err-bytes-clause-ends : goal.returns-in_err-bytes-clause-ends
@@ -43,7 +46,7 @@ returns-in_err-gadget-clause-ends g c =
     let p = err_from_is_err_and c.from_residual-in_err-gadget.result c.from_residual-in_err-gadget.ensures.1 in
     let s = c.in_ok-settings.settings in
     let asked : words_ask (map string_bytes c.args.words.now) ≡ Ok s = search rules in
-    let formed : IsWellFormed s = search rules in
+    let formed = formed_by c.settings.result s (search rules) c.settings.ensures.well_formed in
     rw (p.1) (Ends-file (map string_bytes c.args.words.now)
     (run_of g.S.Source.left g.S.Source.faults g.K.Sink.written g.K.Sink.faults
     (λ b. state_of ((goal.Tally-dyn g (b.vtable, b.value)).kind b.value) ((goal.Tally-dyn g (b.vtable, b.value)).counts b.value))
@@ -57,7 +60,7 @@ returns-in_err-table-clause-ends g c =
     let p = err_from_is_err_and c.from_residual-in_err-table.result c.from_residual-in_err-table.ensures.1 in
     let s = c.in_ok-settings.settings in
     let asked : words_ask (map string_bytes c.args.words.now) ≡ Ok s = search rules in
-    let formed : IsWellFormed s = search rules in
+    let formed = formed_by c.settings.result s (search rules) c.settings.ensures.well_formed in
     rw (p.1) (Ends-table (map string_bytes c.args.words.now)
     (run_of g.S.Source.left g.S.Source.faults g.K.Sink.written g.K.Sink.faults
     (λ b. state_of ((goal.Tally-dyn g (b.vtable, b.value)).kind b.value) ((goal.Tally-dyn g (b.vtable, b.value)).counts b.value))
@@ -71,8 +74,7 @@ returns-in_err-answer-clause-ends g c =
     let p = err_from_is_err_and c.from_residual-in_err-answer.result c.from_residual-in_err-answer.ensures.1 in
     let s = c.in_ok-settings.settings in
     let asked : words_ask (map string_bytes c.args.words.now) ≡ Ok s = search rules in
-    let is : c.settings.result ≡ Ok s = search rules in
-    let formed : IfOk (Ok s) IsWellFormed = subst (λ (r : Result Settings WordsError). IfOk r IsWellFormed) is c.settings.ensures.well_formed in
+    let formed = formed_by c.settings.result s (search rules) c.settings.ensures.well_formed in
     rw (p.1) (Ends-declined (map string_bytes c.args.words.now)
     (run_of g.S.Source.left g.S.Source.faults g.K.Sink.written g.K.Sink.faults
     (λ b. state_of ((goal.Tally-dyn g (b.vtable, b.value)).kind b.value) ((goal.Tally-dyn g (b.vtable, b.value)).counts b.value))
