@@ -72,21 +72,26 @@ fn shuffled(number: u64) -> u64 {
         .wrapping_add(1_442_695_040_888_963_407)
 }
 
-// Whether an elimination gives `count` shuffled lists of variables the answers that a new one gives each. Each list but
-// the first has a prefix of the last one, of any length.
+// Whether an elimination gives `count` shuffled lists of at most seven variables the answers that a new one gives each.
+// Each list but the first has a prefix of the last one, of any length, and one variable more.
 fn agrees_with_new_ones(alloc: Global, table: &WireTable, count: u32) -> Result<bool, OutOfMemory> {
     let mut scratch = Scratch::make(alloc, table)?;
     let mut elimination = Elimination::make(alloc, table)?;
     let mut vars = [0u16; 7];
+    let mut held = 0;
     let mut number = 1;
     for _ in 0..count {
         number = shuffled(number);
-        vars[(number >> 48) as usize % 7] = ((number >> 32) % 85) as u16;
-        let asked = &vars[..(number >> 61) as usize];
+        let kept = (number >> 48) as usize % (held + 1).min(7);
+        vars[kept] = ((number >> 32) % 85) as u16;
+        held = kept + 1;
+        let asked = &vars[..held];
         if !are_variables(table, asked) {
             return Ok(false);
         }
-        if elimination.needed(asked) != needed(table, &mut scratch, asked) {
+        elimination.truncate(kept);
+        elimination.extend(&asked[kept..]);
+        if elimination.least() != needed(table, &mut scratch, asked) {
             return Ok(false);
         }
     }

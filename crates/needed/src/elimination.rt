@@ -1,6 +1,6 @@
-//! Least sets for many lists of variables, where each begins mostly as the last one did.
+//! Least sets of variables that come and go at the end of a list.
 
-ghost use Rattle.std.specs.Prelude.{◌≡◌, ◌≤◌, ◌<◌, ◌↔◌, ℕ, All, length, IfOk};
+ghost use Rattle.std.specs.Prelude.{◌≡◌, ◌≤◌, ◌<◌, ◌↔◌, ◌+◌, ◌++◌, [], ℕ, All, length, take, IfOk};
 ghost use Rattle.gadget_model.specs.Circuit.{Circuit};
 ghost use Rattle.gadget_model.specs.Simulation.{IsSimulatable, IsWithin};
 ghost use Rattle.gf2_rows.specs.Combinations.{most_rows};
@@ -13,8 +13,9 @@ use std::alloc::Global;
 use std::marker::Model;
 use wire_table::WireTable;
 
-/// Finds least sets of input shares for one table, which is what contracts see of it. It keeps its work
-/// on the last variables: where the next ones begin as those did, it goes on from there.
+/// A list of at most 64 variables of one table, with their elimination, which gives the least set of input shares from
+/// which they can be simulated. One variable more takes one reduction, and none is done again when variables are
+/// taken off the end. Once made it takes no memory.
 #[derive(Drop)]
 pub struct Elimination<'t> {
     table: &'t WireTable,
@@ -23,13 +24,13 @@ pub struct Elimination<'t> {
 }
 
 impl<'t> Model for Elimination<'t> {
-    ghost use Rattle.wire_table.specs.Tables.{Table};
+    ghost use Rattle.needed.specs.Eliminated.{Eliminated};
 
-    ghost Value = { Table };
+    ghost Value = { Eliminated };
 
-    ghost use Rattle.needed.specs.HeldFields.{borrowed_table, IsElimination};
+    ghost use Rattle.needed.specs.HeldFields.{eliminated, IsElimination};
 
-    ghost view = { borrowed_table };
+    ghost view = { eliminated };
 
     ghost invariant = { IsElimination };
 }
@@ -37,7 +38,7 @@ impl<'t> Model for Elimination<'t> {
 impl<'t> Elimination<'t> {
     /// An elimination for a table, of no variables so far.
     pub fn make(alloc: Global, table: &'t WireTable) -> Result<Elimination<'t>, OutOfMemory>
-        ensures { IfOk result (λ elimination. elimination ≡ table.now) }
+        ensures { IfOk result (λ elimination. elimination ≡ record { table = table.now; vars = [] }) }
     {
         // Called for its contract alone, which says what holds of every table.
         let _vars = table.vars();
@@ -50,15 +51,27 @@ impl<'t> Elimination<'t> {
         })
     }
 
-    /// The answer of [`needed`](crate::needed) for the table, whatever was asked before. Takes no memory:
-    /// nothing in the elimination can grow.
-    pub fn needed(&mut self, vars: &[u16]) -> u64
-        requires few { length vars.now ≤ most_rows }
-        requires there { All (λ v. v < length self.old.random_rows) vars.now }
-        ensures table { self.new ≡ self.old }
-        ensures least { (g : Circuit) (set : ℕ) → StandsFor self.old g →
-            IsSimulatable g vars.now set ↔ IsWithin result set }
+    /// Keeps the first variables alone, and all of them where there are no more than `count`.
+    pub fn truncate(&mut self, count: usize)
+        ensures { self.new ≡ record { table = self.old.table; vars = take count self.old.vars } }
     {
-        self.prefixes.needed(self.table, &mut self.scratch, vars)
+        self.prefixes.truncate(count);
+    }
+
+    /// Adds variables at the end.
+    pub fn extend(&mut self, vars: &[u16])
+        requires few { length self.old.vars + length vars.now ≤ most_rows }
+        requires there { All (λ v. v < length self.old.table.random_rows) vars.now }
+        ensures { self.new ≡ record { table = self.old.table; vars = self.old.vars ++ vars.now } }
+    {
+        self.prefixes.extend(self.table, &mut self.scratch, vars);
+    }
+
+    /// The least set of input shares from which all of them can be simulated.
+    pub fn least(&self) -> u64
+        ensures { (g : Circuit) (set : ℕ) → StandsFor self.now.table g →
+            IsSimulatable g self.now.vars set ↔ IsWithin result set }
+    {
+        self.prefixes.least()
     }
 }

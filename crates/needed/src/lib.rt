@@ -8,6 +8,7 @@ ghost use Rattle.gf2_rows.specs.Combinations.{most_rows};
 ghost use Rattle.wire_table.specs.Tables.{StandsFor};
 
 mod elimination;
+mod held_items;
 mod indices;
 mod item_scratch;
 mod prefixes;
@@ -34,5 +35,7 @@ pub fn needed(table: &WireTable, scratch: &mut Scratch, vars: &[u16]) -> u64
 {
     // Called for its contract alone, which says what holds of every table.
     let _vars = table.vars();
-    Prefixes::new().needed(table, scratch, vars)
+    let mut prefixes = Prefixes::new();
+    prefixes.extend(table, scratch, vars);
+    prefixes.least()
 }

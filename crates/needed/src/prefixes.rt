@@ -1,10 +1,8 @@
 //! Variables with the least set of each prefix of them.
 
-ghost use Rattle.std.specs.Prelude.{◌≡◌, ◌≤◌, ◌<◌, ◌↔◌, ◌+◌, ◌++◌, ◌∷◌, [], ℕ, All, length, take};
-ghost use Rattle.gadget_model.specs.Circuit.{Circuit};
-ghost use Rattle.gadget_model.specs.Simulation.{IsSimulatable, IsWithin};
+ghost use Rattle.std.specs.Prelude.{◌≡◌, ◌≤◌, ◌<◌, ◌+◌, ◌++◌, ◌∷◌, [], ℕ, All, length, take, slice_index};
 ghost use Rattle.gf2_rows.specs.Combinations.{most_rows};
-ghost use Rattle.wire_table.specs.Tables.{StandsFor, IsTable};
+ghost use Rattle.wire_table.specs.Tables.{IsTable};
 ghost use Rattle.needed.specs.LeastSets.{HoldsLeastSets};
 
 use crate::scratch::Scratch;
@@ -24,7 +22,8 @@ pub struct Prefixes {
 impl Prefixes {
     /// No variables, for any table.
     pub fn new() -> Self
-        ensures { (t : _) → IsTable t → HoldsLeastSets t (length t.products) result }
+        ensures held { (t : _) → IsTable t → HoldsLeastSets t (length t.products) result }
+        ensures none { take result.count result.vars ≡ [] }
     {
         Prefixes {
             stack: RowStack::new(),
@@ -34,36 +33,30 @@ impl Prefixes {
         }
     }
 
-    /// Holds these variables in place of the last ones, and answers their least set. The prefix that both
-    /// have in common stays as it is.
-    pub fn needed(&mut self, table: &WireTable, scratch: &mut Scratch, vars: &[u16]) -> u64
+    /// Keeps the first variables alone, and all of them where there are no more than `count`.
+    pub fn truncate(&mut self, count: usize)
+        ensures held { (t : _) (monomials : ℕ) →
+            HoldsLeastSets t monomials self.old → HoldsLeastSets t monomials self.new }
+        ensures vars { take self.new.count self.new.vars ≡ take count (take self.old.count self.old.vars) }
+    {
+        if count < self.count {
+            self.stack.truncate(count);
+            self.count = count;
+        }
+    }
+
+    /// Adds variables at the end.
+    pub fn extend(&mut self, table: &WireTable, scratch: &mut Scratch, vars: &[u16])
         requires held { HoldsLeastSets table.now scratch.old self.old }
-        requires few { length vars.now ≤ most_rows }
+        requires few { self.old.count + length vars.now ≤ most_rows }
         requires there { All (λ v. v < length table.now.random_rows) vars.now }
         ensures held { HoldsLeastSets table.now scratch.new self.new }
         ensures scratch { scratch.new ≡ scratch.old }
-        ensures vars { take self.new.count self.new.vars ≡ vars.now }
-        ensures least { (g : Circuit) (set : ℕ) → StandsFor table.now g →
-            IsSimulatable g vars.now set ↔ IsWithin result set }
+        ensures vars { take self.new.count self.new.vars ≡ take self.old.count self.old.vars ++ vars.now }
     {
-        let common = common_prefix(&self.vars[..self.count], vars);
-        self.truncate(common);
-        for &var in &vars[common..] {
+        for &var in vars {
             self.push(table, scratch, var);
         }
-        self.leasts[self.count]
-    }
-
-    // Keeps the first variables alone.
-    fn truncate(&mut self, count: usize)
-        requires { count ≤ self.old.count }
-        ensures held { (t : _) (monomials : ℕ) →
-            HoldsLeastSets t monomials self.old → HoldsLeastSets t monomials self.new }
-        ensures count { self.new.count ≡ count }
-        ensures vars { self.new.vars ≡ self.old.vars }
-    {
-        self.stack.truncate(count);
-        self.count = count;
     }
 
     // Adds a variable at the end.
@@ -85,17 +78,12 @@ impl Prefixes {
             None => least,
         };
     }
-}
 
-// How many items both lists begin with.
-fn common_prefix(held: &[u16], asked: &[u16]) -> usize
-    ensures held { result ≤ length held.now }
-    ensures asked { result ≤ length asked.now }
-    ensures common { take result held.now ≡ take result asked.now }
-{
-    let mut common = 0;
-    while common < held.len() && common < asked.len() && held[common] == asked[common] {
-        common += 1;
+    /// The least set of all of them.
+    pub fn least(&self) -> u64
+        requires { self.now.count < length self.now.leasts }
+        ensures { result ≡ slice_index self.now.leasts self.now.count }
+    {
+        self.leasts[self.count]
     }
-    common
 }

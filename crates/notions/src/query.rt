@@ -6,6 +6,7 @@ ghost use Rattle.tuple_model.specs.Limits.{most_size};
 ghost use Rattle.wire_table.specs.Tables.{StandsFor};
 ghost use Rattle.wire_table.specs.CodeItems.{item_of};
 ghost use Rattle.notions.specs.Notions.{HasTooManyOutputs};
+ghost use Rattle.needed.specs.TestedItems.{tested_items};
 ghost use Rattle.notions.specs.Questions.{FailsFor, items_asked, Passes};
 
 use crate::grants::is_granted;
@@ -95,7 +96,7 @@ impl<'g> Question for NotionQuery<'g> {
 impl<'g> Query for NotionQuery<'g> {
     type Scratch = ItemScratch<'g>;
 
-    ghost Fits = { λ question scratch. scratch ≡ question.table };
+    ghost Fits = { λ question scratch. scratch ≡ tested_items question.table (items_asked question) };
 
     fn items(&self) -> u16 {
         self.list.len() as u16
@@ -106,7 +107,7 @@ impl<'g> Query for NotionQuery<'g> {
     }
 
     fn scratch(&self, alloc: Global) -> Result<ItemScratch<'g>, OutOfMemory> {
-        ItemScratch::make(alloc, self.table)
+        ItemScratch::make(alloc, self.table, &self.list)
     }
 
     /// Whether a tuple fails. Where it doesn't, a set of input shares that the notion grants simulates its variables.
@@ -116,9 +117,9 @@ impl<'g> Query for NotionQuery<'g> {
         t: &Tuple,
         steps: &mut Steps<L>,
     ) -> bool
-        requires scratch { scratch.old ≡ self.now.table }
+        requires scratch { scratch.old ≡ tested_items self.now.table (items_asked self.now) }
         requires tuple { IsTuple (length (items_asked self.now)) self.now.t t.now }
-        ensures scratch { scratch.new ≡ self.now.table }
+        ensures scratch { scratch.new ≡ tested_items self.now.table (items_asked self.now) }
         ensures fails { IsTrue result → FailsFor self.now t.now }
         ensures passes { result ≡ false → FailsFor self.now t.now → ⊥ }
         ensures simulated { result ≡ false →
@@ -127,7 +128,7 @@ impl<'g> Query for NotionQuery<'g> {
     {
         steps.tick();
         let inputs = self.gadget.inputs().len() as u8;
-        let least = scratch.needed(&self.list, t.items(), &[]);
+        let least = scratch.needed(t.items(), &[]);
         !is_granted(self.notion, inputs, self.t, &self.list, t.items(), least)
     }
 }

@@ -5,22 +5,20 @@ ghost use Rattle.gadget_limits.specs.Limits.{most_inputs};
 ghost use Rattle.gadget_model.specs.Circuit.{Circuit};
 ghost use Rattle.tuple_model.specs.Limits.{most_size};
 ghost use Rattle.wire_table.specs.Tables.{StandsFor};
-ghost use Rattle.wire_table.specs.Items.{variables_in};
-ghost use Rattle.wire_table.specs.CodeItems.{item_of, ObservesFew, HasVariablesBelow};
 ghost use Rattle.needed.specs.Others.{most_others};
 ghost use Rattle.needed.specs.ShareCounts.{shares_of};
+ghost use Rattle.needed.specs.TestedItems.{variables_at};
 ghost use Rattle.rp_events.specs.Failing.{Exceeds};
 ghost use Rattle.rp_events.specs.Questions.{IsSmallWhich};
 ghost use Rattle.rp_events.specs.Inside.{AllExceed, SomeDoNotExceed};
 
 use needed::{ItemScratch, share_indices};
-use wire_table::{Item, Which};
+use wire_table::Which;
 
 /// Whether input shares exceed whichever of these lists of output shares is simulated beside a tuple, and from
 /// whichever input shares. The least set of input shares decides for each list. Takes no memory.
 pub(crate) fn all_exceed(
     scratch: &mut ItemScratch<'_>,
-    list: &[Item],
     tuple: &[u16],
     lists: &[Vec<u16>],
     inputs: u8,
@@ -29,21 +27,19 @@ pub(crate) fn all_exceed(
 ) -> bool
     requires inputs { inputs ≤ most_inputs }
     requires which { IsSmallWhich which }
-    requires there { All (λ i. i < length list.now) tuple.now }
+    requires there { All (λ i. i < length scratch.old.observed) tuple.now }
     requires short { length tuple.now ≤ most_size }
-    requires few { All ObservesFew (map item_of list.now) }
-    requires variables { All (HasVariablesBelow (length scratch.old.random_rows)) (map item_of list.now) }
     requires few_others { All (λ others. length others.items ≤ most_others) lists.now }
-    requires others { All (λ others. All (λ v. v < length scratch.old.random_rows) others.items) lists.now }
+    requires others { All (λ others. All (λ v. v < length scratch.old.table.random_rows) others.items) lists.now }
     ensures scratch { scratch.new ≡ scratch.old }
-    ensures all { IsTrue result → (g : Circuit) → StandsFor scratch.old g → length g.inputs ≡ inputs →
-        AllExceed g t which (variables_in (map item_of list.now) tuple.now) (map (λ others. others.items) lists.now) }
-    ensures some { result ≡ false → (g : Circuit) → StandsFor scratch.old g → length g.inputs ≡ inputs →
-        SomeDoNotExceed g t which (variables_in (map item_of list.now) tuple.now)
+    ensures all { IsTrue result → (g : Circuit) → StandsFor scratch.old.table g → length g.inputs ≡ inputs →
+        AllExceed g t which (variables_at scratch.old.observed tuple.now) (map (λ others. others.items) lists.now) }
+    ensures some { result ≡ false → (g : Circuit) → StandsFor scratch.old.table g → length g.inputs ≡ inputs →
+        SomeDoNotExceed g t which (variables_at scratch.old.observed tuple.now)
         (map (λ others. others.items) lists.now) }
 {
     for others in lists {
-        let least = scratch.needed(list, tuple, others);
+        let least = scratch.needed(tuple, others);
         if !exceeds(least, inputs, which, t) {
             return false;
         }

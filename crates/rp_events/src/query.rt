@@ -5,6 +5,7 @@ ghost use Rattle.tuple_model.specs.Tuples.{IsTuple};
 ghost use Rattle.tuple_model.specs.Limits.{most_size};
 ghost use Rattle.wire_table.specs.Tables.{StandsFor};
 ghost use Rattle.wire_table.specs.CodeItems.{HasSmallWeight, item_of};
+ghost use Rattle.needed.specs.TestedItems.{tested_items};
 ghost use Rattle.rp_events.specs.Questions.{FailsAsked, IsEventOf, leaking_items, PassesEvent, event_of};
 
 use crate::event::Event;
@@ -108,7 +109,7 @@ impl<'g> Question for EventQuery<'g> {
 impl<'g> Query for EventQuery<'g> {
     type Scratch = ItemScratch<'g>;
 
-    ghost Fits = { λ question scratch. scratch ≡ question.table };
+    ghost Fits = { λ question scratch. scratch ≡ tested_items question.table (leaking_items question) };
 
     fn items(&self) -> u16 {
         self.list.len() as u16
@@ -119,7 +120,7 @@ impl<'g> Query for EventQuery<'g> {
     }
 
     fn scratch(&self, alloc: Global) -> Result<ItemScratch<'g>, OutOfMemory> {
-        ItemScratch::make(alloc, self.table)
+        ItemScratch::make(alloc, self.table, &self.list)
     }
 
     /// Whether a tuple fails. Where it doesn't, some set of the event's output shares is simulated with it from input
@@ -130,9 +131,9 @@ impl<'g> Query for EventQuery<'g> {
         t: &Tuple,
         steps: &mut Steps<L>,
     ) -> bool
-        requires scratch { scratch.old ≡ self.now.table }
+        requires scratch { scratch.old ≡ tested_items self.now.table (leaking_items self.now) }
         requires tuple { IsTuple (length (leaking_items self.now)) self.now.size t.now }
-        ensures scratch { scratch.new ≡ self.now.table }
+        ensures scratch { scratch.new ≡ tested_items self.now.table (leaking_items self.now) }
         ensures fails { IsTrue result → FailsAsked self.now t.now }
         ensures passes { result ≡ false → FailsAsked self.now t.now → ⊥ }
         ensures simulated { result ≡ false →
@@ -143,7 +144,6 @@ impl<'g> Query for EventQuery<'g> {
         let inputs = self.gadget.inputs().len() as u8;
         all_exceed(
             scratch,
-            &self.list,
             t.items(),
             &self.outputs,
             inputs,

@@ -1,5 +1,5 @@
 use Rattle.std.proofs.Common.{◌≡◌, ◌≤◌, ◌-◌, length, take}
-use Rattle.needed.proofs.prefixes.common_prefix.Given as goal
+use Rattle.needed.proofs.held_items.common_prefix.Given as goal
 
 abbrev pub invariant-loop-common : goal.invariant-loop-common
 invariant-loop-common l = record {
