@@ -1,17 +1,16 @@
 -- The variables of a tuple's items: how many they are, and those of its first items and of one item more.
-use Rattle.std.proofs.Common.{◌≡◌, ◌*◌, ◌<◌, ◌≤◌, ℕ, List, [], ◌∷◌, ◌++◌, length, get_or, take, drop, refl, ap, sym, ◌∙◌, subst, arith, append-nil, length-append}
+use Rattle.std.proofs.Common.{◌≡◌, ◌*◌, ◌<◌, ◌≤◌, ℕ, List, [], ◌∷◌, ◌++◌, length, get_or, take, drop, ap, sym, ◌∙◌, subst, arith, append-nil, length-append}
 use Rattle.std.specs.List.{All}
 use Rattle.std.proofs.Math.ListN.{length-map}
 use Rattle.std.proofs.Math.Seq.{take-append_seam}
 use Rattle.std.proofs.lemmas.Grind.{flat_map-append}
 use Rattle.std.proofs.lemmas.List.{get_or-map, take-append-drop, take-take}
-use Rattle.std.proofs.lemmas.List.Elements.{All-head, All-map, All-nil, All-tail}
+use Rattle.std.proofs.lemmas.List.Elements.{All-head, All-map, All-tail}
 use Rattle.gadget_limits.specs.Limits.{most_outputs}
 use Rattle.wire_table.specs.Items.{Item}
 use Rattle.wire_table.specs.CodeItems.{HasVariablesBelow, ObservesFew}
 use Rattle.arrayvec.specs.ArrayVec.{ArrayVec}
-use Rattle.needed.specs.declared.held_items.HeldItems.{HeldItems}
-use Rattle.needed.specs.HeldItems.{AreObserved, HoldsItems, observed_of}
+use Rattle.needed.specs.HeldItems.{AreObserved, observed_of}
 use Rattle.needed.specs.TestedItems.{observed_by, variables_at}
 
 -- what an item observes, where it is stored
@@ -60,10 +59,3 @@ module _ (observed : List (List ℕ)) where
 pub AreObserved-items : (bound : ℕ) (items : List Item) → All ObservesFew items → All (HasVariablesBelow bound) items → AreObserved bound (observed_by items)
 AreObserved-items bound items few below =
     All-map (λ (vars : List ℕ). (length vars ≤ most_outputs) × All (λ v. v < bound) vars) (λ (item : Item). item.variables) items (λ k d l. (few k d l, below k d l))
-
--- where no items are held
-pub HoldsItems-none : (observed : List (List ℕ)) (h : HeldItems) → h.items.items ≡ [] → HoldsItems observed h
-HoldsItems-none observed h none = record {
-  there = subst (All (λ i. i < length observed)) (sym none) (All-nil (λ i. i < length observed));
-  variables = subst (λ (t : List ℕ). take (length (variables_at observed t)) h.elimination.vars ≡ variables_at observed t) (sym none) refl;
-}

@@ -59,6 +59,8 @@ impl<'t> Elimination<'t> {
     }
 
     /// Adds variables at the end.
+    // It is inlined, since most calls add one variable or none.
+    #[inline(always)]
     pub fn extend(&mut self, vars: &[u16])
         requires few { length self.old.vars + length vars.now ≤ most_rows }
         requires there { All (λ v. v < length self.old.table.random_rows) vars.now }

@@ -1,11 +1,11 @@
 //! The items of a tuple, with the elimination of the variables that they observe.
 
-ghost use Rattle.std.specs.Prelude.{◌≡◌, ◌↔◌, ◌<◌, ◌≤◌, ◌++◌, ◌∷◌, [], ℕ, All, length, take};
+ghost use Rattle.std.specs.Prelude.{◌≡◌, ◌↔◌, ◌+◌, ◌<◌, ◌≤◌, List, [], ◌∷◌, ◌++◌, ℕ, All, length, take};
 ghost use Rattle.gadget_model.specs.Circuit.{Circuit};
 ghost use Rattle.gadget_model.specs.Simulation.{IsSimulatable, IsWithin};
 ghost use Rattle.tuple_model.specs.Limits.{most_size};
 ghost use Rattle.wire_table.specs.Tables.{StandsFor};
-ghost use Rattle.needed.specs.HeldItems.{AreObserved, HoldsItems, observed_of};
+ghost use Rattle.needed.specs.HeldItems.{AreObserved, HoldsItems, HoldsItemsAlone, held_by, observed_of};
 ghost use Rattle.needed.specs.Others.{most_others};
 ghost use Rattle.needed.specs.TestedItems.{variables_at};
 
@@ -22,18 +22,20 @@ pub type Observed = ArrayVec<u16, MOST_OUTPUTS>;
 /// The items of a tuple, with the elimination of the variables that they observe, and of others after them.
 #[derive(Drop)]
 pub struct HeldItems<'t> {
-    items: ArrayVec<u16, MOST_SIZE>,
+    items: [u16; MOST_SIZE],
+    count: usize,
     elimination: Elimination<'t>,
 }
 
 impl<'t> HeldItems<'t> {
     /// No items, and an elimination of no variables.
     pub fn new(elimination: Elimination<'t>) -> Self
-        ensures items { result.items.items ≡ [] }
+        ensures held { (observed : List (List ℕ)) → HoldsItems observed result }
         ensures elimination { result.elimination ≡ elimination.entry }
     {
         HeldItems {
-            items: ArrayVec::new(),
+            items: [0; MOST_SIZE],
+            count: 0,
             elimination,
         }
     }
@@ -63,13 +65,11 @@ impl<'t> HeldItems<'t> {
         requires observed { AreObserved (length self.old.elimination.table.random_rows) (observed_of observed.now) }
         requires there { All (λ i. i < length observed.now) tuple.now }
         requires short { length tuple.now ≤ most_size }
-        ensures items { self.new.items.items ≡ tuple.now }
-        ensures elimination { self.new.elimination ≡ record {
-          table = self.old.elimination.table;
-          vars = variables_at (observed_of observed.now) tuple.now;
-        } }
+        ensures held { HoldsItemsAlone (observed_of observed.now) self.new }
+        ensures items { held_by self.new ≡ tuple.now }
+        ensures table { self.new.elimination.table ≡ self.old.elimination.table }
     {
-        let common = common_prefix(self.items.as_slice(), tuple);
+        let common = common_prefix(&self.items[..self.count], tuple);
         self.truncate(observed, common);
         for &item in &tuple[common..] {
             self.push(observed, item);
@@ -79,33 +79,32 @@ impl<'t> HeldItems<'t> {
     // Keeps the first items alone, and no other variables.
     fn truncate(&mut self, observed: &[Observed], count: usize)
         requires held { HoldsItems (observed_of observed.now) self.old }
-        ensures items { self.new.items.items ≡ take count self.old.items.items }
-        ensures elimination { self.new.elimination ≡ record {
-          table = self.old.elimination.table;
-          vars = variables_at (observed_of observed.now) (take count self.old.items.items);
-        } }
+        requires fewer { count ≤ self.old.count }
+        ensures held { HoldsItemsAlone (observed_of observed.now) self.new }
+        ensures count { self.new.count ≡ count }
+        ensures items { self.new.items ≡ self.old.items }
+        ensures table { self.new.elimination.table ≡ self.old.elimination.table }
     {
-        self.items.truncate(count);
-        let vars = variable_count(observed, self.items.as_slice());
+        self.count = count;
+        let vars = variable_count(observed, &self.items[..count]);
         self.elimination.truncate(vars);
     }
 
     // Adds an item at the end.
     fn push(&mut self, observed: &[Observed], item: u16)
+        requires held { HoldsItemsAlone (observed_of observed.now) self.old }
         requires observed { AreObserved (length self.old.elimination.table.random_rows) (observed_of observed.now) }
-        requires there { All (λ i. i < length observed.now) self.old.items.items }
-        requires item_there { item < length observed.now }
-        requires few { length self.old.items.items < most_size }
-        requires held { self.old.elimination.vars ≡ variables_at (observed_of observed.now) self.old.items.items }
-        ensures items { self.new.items.items ≡ self.old.items.items ++ item ∷ [] }
-        ensures elimination { self.new.elimination ≡ record {
-          table = self.old.elimination.table;
-          vars = variables_at (observed_of observed.now) (self.old.items.items ++ item ∷ []);
-        } }
+        requires there { item < length observed.now }
+        requires few { self.old.count < most_size }
+        ensures held { HoldsItemsAlone (observed_of observed.now) self.new }
+        ensures count { self.new.count ≡ self.old.count + 1 }
+        ensures items { held_by self.new ≡ held_by self.old ++ item ∷ [] }
+        ensures table { self.new.elimination.table ≡ self.old.elimination.table }
     {
         self.elimination
             .extend(observed[usize::from(item)].as_slice());
-        self.items.push(item);
+        self.items[self.count] = item;
+        self.count += 1;
     }
 }
 

@@ -46,6 +46,7 @@ impl Prefixes {
     }
 
     /// Adds variables at the end.
+    #[inline(always)]
     pub fn extend(&mut self, table: &WireTable, scratch: &mut Scratch, vars: &[u16])
         requires held { HoldsLeastSets table.now scratch.old self.old }
         requires few { self.old.count + length vars.now ≤ most_rows }

@@ -3,7 +3,7 @@ use Rattle.wire_table.specs.CodeItems.{item_of}
 use Rattle.needed.specs.Eliminated.{Eliminated}
 use Rattle.needed.specs.HeldItems.{AreObserved, observed_of}
 use Rattle.needed.specs.TestedItems.{observed_by}
-use Rattle.needed.proofs.HeldItems.{AreObserved-items, HoldsItems-none}
+use Rattle.needed.proofs.HeldItems.{AreObserved-items}
 use Rattle.needed.proofs.item_scratch.ItemScratch.make.Goals as goal
 
 pub invariant_of-result : goal.invariant_of-result
@@ -17,5 +17,5 @@ invariant_of-result c =
       observed = subst (λ (n : ℕ). AreObserved n (observed_of stored)) (sym bound)
           (subst (AreObserved (length c.args.table.now.random_rows)) (sym same)
           (AreObserved-items (length c.args.table.now.random_rows) items c.requires.few c.requires.variables));
-      held = HoldsItems-none (observed_of stored) c.new.result c.new.ensures.items;
+      held = c.new.ensures.held (observed_of stored);
     }
