@@ -22,7 +22,8 @@ pub record HoldsItems (observed : List (List ℕ)) (h : HeldItems) : Type 0 wher
   pub places : length h.items ≡ most_size
   pub few : h.count ≤ most_size
   pub there : All (λ i. i < length observed) (held_by h)
-  pub variables : take (length (variables_at observed (held_by h))) h.elimination.vars ≡ variables_at observed (held_by h)
+  pub variables :
+      take (length (variables_at observed (held_by h))) h.elimination.vars ≡ variables_at observed (held_by h)
 
 -- the same with no others
 pub record HoldsItemsAlone (observed : List (List ℕ)) (h : HeldItems) : Type 0 where

@@ -52,7 +52,8 @@ impl<'t> HeldItems<'t> {
         ensures held { HoldsItems (observed_of observed.now) self.new }
         ensures table { self.new.elimination.table ≡ self.old.elimination.table }
         ensures least { (g : Circuit) (set : ℕ) → StandsFor self.old.elimination.table g →
-            IsSimulatable g (variables_at (observed_of observed.now) tuple.now ++ others.now) set ↔ IsWithin result set }
+            IsSimulatable g (variables_at (observed_of observed.now) tuple.now ++ others.now) set
+            ↔ IsWithin result set }
     {
         self.hold(observed, tuple);
         self.elimination.extend(others);

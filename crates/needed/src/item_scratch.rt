@@ -18,8 +18,8 @@ use std::marker::Model;
 use wire_table::{Item, WireTable};
 
 /// What the test of tuples works in: the variables that each item observes, and the elimination of those of the last
-/// tuple. Where the next tuple begins with the same items it goes on from there, so that a tuple that differs in its last
-/// item takes the time of that item alone.
+/// tuple. Where the next tuple begins with the same items it goes on from there, so that a tuple that differs in its
+/// last item takes the time of that item alone.
 #[derive(Drop)]
 pub struct ItemScratch<'t> {
     observed: Vec<Observed>,
@@ -40,7 +40,11 @@ impl<'t> Model for ItemScratch<'t> {
 
 impl<'t> ItemScratch<'t> {
     /// A scratch for a table and a list of items.
-    pub fn make(alloc: Global, table: &'t WireTable, list: &[Item]) -> Result<ItemScratch<'t>, OutOfMemory>
+    pub fn make(
+        alloc: Global,
+        table: &'t WireTable,
+        list: &[Item],
+    ) -> Result<ItemScratch<'t>, OutOfMemory>
         requires few { All ObservesFew (map item_of list.now) }
         requires variables { All (HasVariablesBelow (length table.now.random_rows)) (map item_of list.now) }
         ensures { IfOk result (λ scratch. scratch ≡ tested_items table.now (map item_of list.now)) }
