@@ -59,7 +59,7 @@ struct Blocks {
     ghost has_workers: { 0 < workers },
 }
 
-// The merged lists of the workers from `first` to before `end`. Half of them begin in a new thread; where none can be
+// The merged lists of the workers from `first` to before `end`. Some of them begin in a new thread; where none can be
 // started, they work in this one.
 #[cycle(workers)]
 fn merged<R: Threads + Sync, Q: Query, G: Gate>(
@@ -81,7 +81,7 @@ fn merged<R: Threads + Sync, Q: Query, G: Gate>(
     if end - first == 1 {
         return found(alloc, query, blocks, gate, first);
     }
-    let middle = first + (end - first) / 2;
+    let middle = first + in_new_thread(end - first);
     let (low, high) = join(
         rt,
         || -> Result<Antichain, OutOfMemory>
@@ -100,6 +100,17 @@ fn merged<R: Threads + Sync, Q: Query, G: Gate>(
     let mut list = low?;
     list.merge(&high?)?;
     Ok(list)
+}
+
+// How many of so many workers begin in a new thread. One thread starts a few, one by one, since a system puts each on a
+// processor of its own, where those that two threads start at once may share one for some milliseconds. Of more workers
+// half begin there, so that lists are merged with lists as long as they are.
+fn in_new_thread(workers: u16) -> u16
+    requires { 1 < workers }
+    ensures some { 0 < result }
+    ensures fewer { result < workers }
+{
+    if workers <= 8 { 1 } else { workers / 2 }
 }
 
 // What one worker finds, with a counter of its own.

@@ -1,4 +1,4 @@
-use Rattle.std.proofs.Common.{◌+◌, ◌-◌, ◌/◌, subst, arith}
+use Rattle.std.proofs.Common.{◌+◌, subst, arith}
 use Rattle.std.specs.Prelude.{IfOk}
 use Rattle.check_workers.specs.Passes.{CoversRanked, IsTaken}
 use Rattle.check_workers.proofs.Blocks.{CoversRanked-merged, IsTaken-halves}
@@ -10,7 +10,9 @@ returns-clause-covers g t c =
     let block = c.args.blocks.block in
     let first = c.args.first in
     let end = c.args.end in
-    let middle = first + (end - first) / 2 in
+    let middle = first + c.in_new_thread.result in
+    let some = c.in_new_thread.ensures.some in
+    let fewer = c.in_new_thread.ensures.fewer in
     let Fails = g.Q.Question.Fails c.args.query.now in
     let items = g.Q.Question.items c.args.query.now in
     let size = g.Q.Question.size c.args.query.now in
