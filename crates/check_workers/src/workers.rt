@@ -59,8 +59,7 @@ struct Blocks {
     ghost has_workers: { 0 < workers },
 }
 
-// The merged lists of the workers from `first` to before `end`. Some of them begin in a new thread; where none can be
-// started, they work in this one.
+// The merged lists of the workers from `first` to before `end`. One alone works in this thread.
 #[cycle(workers)]
 fn merged<R: Threads + Sync, Q: Query, G: Gate>(
     rt: &R,
@@ -81,6 +80,31 @@ fn merged<R: Threads + Sync, Q: Query, G: Gate>(
     if end - first == 1 {
         return found(alloc, query, blocks, gate, first);
     }
+    started(rt, alloc, query, blocks, gate, first, end)
+}
+
+// The same with each worker in a thread of its own, or in this one where none can be started. This thread starts them
+// and waits: a system may put a new thread on the processor of the one that starts it, which is then free.
+#[cycle(workers)]
+fn started<R: Threads + Sync, Q: Query, G: Gate>(
+    rt: &R,
+    alloc: Global,
+    query: &Q,
+    blocks: Blocks,
+    gate: &G,
+    first: u16,
+    end: u16,
+) -> Result<Antichain, OutOfMemory>
+    requires some { first < end }
+    requires workers { end ≤ blocks.workers }
+    requires ranks { blocks.ranks ≡ length (tuples (Q.Question.items query.now) (Q.Question.size query.now)) }
+    ensures covers { IfOk result (CoversRanked (Q.Question.Fails query.now) (Q.Question.items query.now)
+        (Q.Question.size query.now) (IsTaken blocks.workers blocks.block first end)) }
+    ensures antichain { IfOk result IsAntichain }
+{
+    if end - first == 1 {
+        return found_in_thread(rt, alloc, query, blocks, gate, first);
+    }
     let middle = first + in_new_thread(end - first);
     let (low, high) = join(
         rt,
@@ -95,11 +119,40 @@ fn merged<R: Threads + Sync, Q: Query, G: Gate>(
                 × (blocks.ranks ≡ length (tuples (Q.Question.items query.now) (Q.Question.size query.now))) }
             ensures { IfOk result (CoversRanked (Q.Question.Fails query.entry.now) (Q.Question.items query.entry.now)
                 (Q.Question.size query.entry.now) (IsTaken blocks.workers blocks.block middle end)) }
-        { merged(rt, alloc, query, blocks, gate, middle, end) },
+        { started(rt, alloc, query, blocks, gate, middle, end) },
     );
     let mut list = low?;
     list.merge(&high?)?;
     Ok(list)
+}
+
+// What one worker finds in a new thread, for which this one waits.
+fn found_in_thread<R: Threads + Sync, Q: Query, G: Gate>(
+    rt: &R,
+    alloc: Global,
+    query: &Q,
+    blocks: Blocks,
+    gate: &G,
+    worker: u16,
+) -> Result<Antichain, OutOfMemory>
+    requires worker { worker < blocks.workers }
+    requires ranks { blocks.ranks ≡ length (tuples (Q.Question.items query.now) (Q.Question.size query.now)) }
+    ensures covers { IfOk result (CoversRanked (Q.Question.Fails query.now) (Q.Question.items query.now)
+        (Q.Question.size query.now) (IsTaken blocks.workers blocks.block worker (worker + 1))) }
+    ensures antichain { IfOk result IsAntichain }
+{
+    let (list, _none) = join(
+        rt,
+        || -> Result<Antichain, OutOfMemory>
+            requires { IsSync Q.row × IsSync G.row × (worker < blocks.workers)
+                × (blocks.ranks ≡ length (tuples (Q.Question.items query.now) (Q.Question.size query.now))) }
+            ensures { IfOk result (CoversRanked (Q.Question.Fails query.entry.now) (Q.Question.items query.entry.now)
+                (Q.Question.size query.entry.now) (IsTaken blocks.workers blocks.block worker (worker + 1)))
+                × IfOk result IsAntichain }
+        { found(alloc, query, blocks, gate, worker) },
+        || {},
+    );
+    list
 }
 
 // How many of so many workers begin in a new thread. One thread starts a few, one by one, since a system puts each on a

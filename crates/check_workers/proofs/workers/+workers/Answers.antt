@@ -4,8 +4,8 @@ use Rattle.check_workers.specs.Passes.{CoversRanked, IsTaken}
 use Rattle.check_workers.proofs.Blocks.{CoversRanked-merged, IsTaken-halves}
 use Rattle.check_workers.proofs.workers.+workers.Goals as goal
 
-pub returns-clause-covers : goal.returns-clause-covers
-returns-clause-covers g t c =
+pub started-returns-clause-covers : goal.started-returns-clause-covers
+started-returns-clause-covers g t c =
     let workers = c.args.blocks.workers in
     let block = c.args.blocks.block in
     let first = c.args.first in
