@@ -109,9 +109,9 @@ def odd_shape(rng, kind, task, argument):
         ["--", task, argument], [option, value, "--", task, argument], [task, argument, option, "--", value],
         [task, "--", "--"], [task, argument, "---"], [task, argument, "--="], [task, argument, "--=2"],
         [task, argument, f"{option}=={value}"], [task, "--", "-1"], ["--", "-h", argument], [task, argument, "--", ""],
-        [task, argument, "--", "-"], [task, "--", "-"], ["--", "-", argument], ["--", task, ""], ["help"], ["help", task],
-        [task, argument, f"{option}={value}", f"{option}={value}"], [argument, task], [task, task], ["-" + task, argument],
-        [task, argument, "@file"], [task, argument, "--tallies", "2"],
+        [task, argument, "--", "-"], [task, "--", "-"], ["--", "-", argument], ["--", task, ""], ["help"],
+        ["help", task], [task, argument, f"{option}={value}", f"{option}={value}"], [argument, task], [task, task],
+        ["-" + task, argument], [task, argument, "@file"], [task, argument, "--tallies", "2"],
     ]))  # fmt: skip
 
 

@@ -36,8 +36,8 @@ class Work(NamedTuple):
 
 
 def answer(line, file, readable=True, writable=True):
-    """How a run with these words (bytes) and this file ends, where the file can be read and the report written, or where
-    not."""
+    """How a run with these words (bytes) and this file ends, where the file can or can't be read, and the report can or
+    can't be written."""
     try:
         check = words.read(line)
         text = demo_answer(check) if check.task in words.DEMOS else file_answer(check, file, readable)
