@@ -53,7 +53,8 @@ def encoded(rng, lines):
 
 def header_place(lines, header):
     """The place of a header line."""
-    return next(place for place, line in enumerate(lines) if f"#{header}" in line.split("\n")[-1])
+    starts = [line.split("\n")[-1].lstrip(" \t").startswith(f"#{header}") for line in lines]
+    return starts.index(True)
 
 
 def with_header(lines, header, text):
