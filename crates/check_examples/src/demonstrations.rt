@@ -1,79 +1,12 @@
 //! Demonstrations: the gadget is made, and nothing is read.
 
-use crate::fixture::{MULTIPLICATION, REFRESH, SUM, check_as, check_whole, source_of};
+use crate::fixture::{SUM, check_whole, source_of};
 use mask_bytes::{MemSink, ReadError, SureSource, read_whole};
-use mask_check::{Status, UsageKind};
-use std::marker::Sync;
+use mask_check::Status;
 use std::test::Fail;
-use std::thread::Threads;
 
 const MULTIPLICATION_REPORT: &str =
     "check sni 1\ngadget shares 2 inputs 2 outputs 1 randoms 1 variables 13\nspace items 13 size 1 tuples 14\nverdict yes\n";
-
-const REFRESH_REPORT: &str =
-    "check sni 1\ngadget shares 2 inputs 1 outputs 1 randoms 1 variables 5\nspace items 5 size 1 tuples 6\nverdict yes\n";
-
-const FIVE_SHARES_REPORT: &str =
-    "check sni 4\ngadget shares 5 inputs 2 outputs 1 randoms 10 variables 85\nspace items 85 size 4 tuples 2127211\nverdict yes\n";
-
-// Words, the bytes of the source, and the report. A demonstration is as if its gadget were read.
-const SECURE: [(&[&str], &str, &str); 4] = [
-    (&["demo", "2"], SUM, MULTIPLICATION_REPORT),
-    (&["sni", "1"], MULTIPLICATION, MULTIPLICATION_REPORT),
-    (&["demo-refresh", "2"], SUM, REFRESH_REPORT),
-    (&["sni", "1"], REFRESH, REFRESH_REPORT),
-];
-
-#[test]
-fn demonstrations_report_on_the_gadgets_that_they_make(rt: HostRuntime) -> Result<(), Fail> {
-    for (asked, file, report) in SECURE {
-        let outcome = check_as(&rt, asked, file)?;
-        assert_eq!(rt; outcome.status, Status::Yes, "at {asked:?}");
-        assert_eq!(rt; outcome.text.as_str(), report, "at {asked:?}");
-    }
-    Ok(())
-}
-
-// Whether the report on the multiplication of five shares is the same by so many workers.
-fn reports_on_five_shares<R: AllocGlobal + Threads + Sync>(
-    rt: &R,
-    workers: &str,
-) -> Result<bool, Fail> {
-    let outcome = check_as(rt, &["demo", "5", "--workers", workers], "")?;
-    Ok(outcome.status == Status::Yes && outcome.text.as_str() == FIVE_SHARES_REPORT)
-}
-
-#[test]
-fn one_worker_checks_the_multiplication_of_five_shares(rt: HostRuntime) -> Result<(), Fail> {
-    assert!(rt; reports_on_five_shares(&rt, "1")?);
-    Ok(())
-}
-
-#[test]
-fn sixty_four_workers_check_the_multiplication_of_five_shares(rt: HostRuntime) -> Result<(), Fail> {
-    assert!(rt; reports_on_five_shares(&rt, "64")?);
-    Ok(())
-}
-
-// Words, and why nothing is demonstrated.
-const REFUSALS: [(&[&str], Status); 3] = [
-    (
-        &["demo", "5", "--budget", "2127210"],
-        Status::Budget(2_127_211),
-    ),
-    (&["demo", "6"], Status::Usage(UsageKind::Argument)),
-    (&["demo-refresh", "1"], Status::Usage(UsageKind::Argument)),
-];
-
-#[test]
-fn demonstrations_that_are_refused_write_nothing(rt: HostRuntime) -> Result<(), Fail> {
-    for (asked, status) in REFUSALS {
-        let outcome = check_as(&rt, asked, SUM)?;
-        assert_eq!(rt; outcome.status, status, "at {asked:?}");
-        assert_eq!(rt; outcome.text.as_str(), "", "at {asked:?}");
-    }
-    Ok(())
-}
 
 #[test]
 fn demonstration_leaves_all_bytes_in_the_source(rt: HostRuntime) -> Result<(), Fail> {

@@ -18,10 +18,6 @@ pub const SUM_REPORT: &str =
 /// A refresh of two shares by one random bit, a gadget file of 61 bytes.
 pub const REFRESH: &str = "#SHARES 2\n#IN a\n#RANDOMS r0\n#OUT d\nd0 = a0 + r0\nd1 = a1 + r0\n";
 
-/// The report of `REFRESH` at order 1: no probe depends on a share, but for the shares themselves.
-pub const REFRESH_REPORT: &str =
-    "check ni 1\ngadget shares 2 inputs 1 outputs 1 randoms 1 variables 5\nspace items 5 size 1 tuples 6\nverdict yes\n";
-
 /// The multiplication of two shares of Ishai, Sahai and Wagner.
 pub const MULTIPLICATION: &str =
     "#SHARES 2\n#IN a b\n#RANDOMS r01\n#OUT c\np00 = a0 * b0\np01 = a0 * b1\np10 = a1 * b0\np11 = a1 * b1\nu01 = r01 + p01\nr10 = u01 + p10\nc0 = p00 + r01\nc1 = p11 + r10\n";
@@ -77,14 +73,13 @@ pub fn check_tallied<R: AllocGlobal + Threads + Sync>(
     check_whole(rt, asked, &mut source, sink, tallies)
 }
 
-/// Checks what `source` gives at an order, into a sink.
-pub fn check_into<R: AllocGlobal + Threads + Sync, S: Source>(
+/// Checks what `source` gives as [`PAIR_REPORT`] says, into a sink.
+pub fn check_pair<R: AllocGlobal + Threads + Sync, S: Source>(
     rt: &R,
-    order: &str,
     source: &mut S,
     sink: MemSink,
 ) -> Result<Outcome, Fail> {
-    check_whole(rt, &["ni", order], source, sink, &mut Vec::new(rt.alloc()))
+    check_whole(rt, &["sni", "2"], source, sink, &mut Vec::new(rt.alloc()))
 }
 
 /// Checks what `source` gives as the words after the program's name ask, into a sink, with these tallies.
@@ -103,23 +98,4 @@ pub fn check_whole<R: AllocGlobal + Threads + Sync, S: Source>(
     let status = check(rt, alloc, &words, source, &mut sink, &OpenGate, tallies);
     let text = String::from_utf8(sink.bytes().to_vec(alloc)?)?;
     Ok(Outcome { status, text })
-}
-
-/// Checks what `source` gives at an order, into a sink that takes all at once.
-pub fn check_source<R: AllocGlobal + Threads + Sync, S: Source>(
-    rt: &R,
-    order: &str,
-    source: &mut S,
-) -> Result<Outcome, Fail> {
-    let sink = MemSink::make(rt.alloc(), 1000, 1000, Vec::new(rt.alloc()))?;
-    check_into(rt, order, source, sink)
-}
-
-/// Checks the bytes of a file at an order, into a sink that takes all at once.
-pub fn check_bytes<R: AllocGlobal + Threads + Sync>(
-    rt: &R,
-    order: &str,
-    file: &[u8],
-) -> Result<Outcome, Fail> {
-    check_source(rt, order, &mut SureSource::make(file.to_vec(rt.alloc())?))
 }

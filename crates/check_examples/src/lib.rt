@@ -6,31 +6,19 @@ mod demonstrations;
 #[cfg(test)]
 mod fixture;
 #[cfg(test)]
-mod forms;
-#[cfg(test)]
-mod four_notions;
-#[cfg(test)]
-mod leaking;
+mod gates;
 #[cfg(test)]
 mod least_sets;
 #[cfg(test)]
-mod limits;
-#[cfg(test)]
 mod own_tallies;
 #[cfg(test)]
-mod products;
-#[cfg(test)]
-mod randoms;
-#[cfg(test)]
 mod read_faults;
+#[cfg(test)]
+mod recording;
 #[cfg(test)]
 mod standard;
 #[cfg(test)]
 mod tallying;
-#[cfg(test)]
-mod verdicts;
-#[cfg(test)]
-mod widths;
 #[cfg(test)]
 mod words;
 #[cfg(test)]

@@ -1,27 +1,25 @@
-//! Reads that fail, at every place.
+//! Reads that fail, at every place. The file has 61 bytes, and the call after the last of them tells the end.
 
-use crate::fixture::{SUM, SUM_REPORT, check_source, source_of};
+use crate::fixture::{Outcome, PAIR_REPORT, REFRESH, check_pair, source_of};
+use mask_bytes::MemSink;
 use mask_check::Status;
+use std::marker::Sync;
 use std::test::Fail;
+use std::thread::Threads;
 
-#[test]
-fn read_fault_in_the_middle_writes_nothing(rt: HostRuntime) -> Result<(), Fail> {
+// Checks the refresh, read and written a byte a call, from a source that fails at this call.
+fn check_failing<R: AllocGlobal + Threads + Sync>(rt: &R, call: u32) -> Result<Outcome, Fail> {
     let alloc = rt.alloc();
-    let mut source = source_of(alloc, SUM, 16, &[3])?;
-    let outcome = check_source(&rt, "1", &mut source)?;
-    assert_eq!(rt; outcome.status, Status::ReadFault);
-    assert_eq!(rt; outcome.text.as_str(), "");
-    Ok(())
+    let mut source = source_of(alloc, REFRESH, 1, &[call])?;
+    let sink = MemSink::make(alloc, 1000, 1, Vec::new(alloc))?;
+    check_pair(rt, &mut source, sink)
 }
 
-// The file has 44 bytes, and the call after the last of them tells the end.
 #[test]
 fn read_fault_at_any_byte_or_the_end_writes_nothing(rt: HostRuntime) -> Result<(), Fail> {
-    let alloc = rt.alloc();
-    assert_eq!(rt; SUM.len(), 44);
-    for call in 1..=45u32 {
-        let mut source = source_of(alloc, SUM, 1, &[call])?;
-        let outcome = check_source(&rt, "1", &mut source)?;
+    assert_eq!(rt; REFRESH.len(), 61);
+    for call in 1..=62u32 {
+        let outcome = check_failing(&rt, call)?;
         assert_eq!(rt; outcome.status, Status::ReadFault, "at call {call}");
         assert_eq!(rt; outcome.text.as_str(), "", "at call {call}");
     }
@@ -30,10 +28,8 @@ fn read_fault_at_any_byte_or_the_end_writes_nothing(rt: HostRuntime) -> Result<(
 
 #[test]
 fn fault_behind_the_end_is_never_met(rt: HostRuntime) -> Result<(), Fail> {
-    let alloc = rt.alloc();
-    let mut source = source_of(alloc, SUM, 1, &[46])?;
-    let outcome = check_source(&rt, "1", &mut source)?;
+    let outcome = check_failing(&rt, 63)?;
     assert_eq!(rt; outcome.status, Status::No);
-    assert_eq!(rt; outcome.text.as_str(), SUM_REPORT);
+    assert_eq!(rt; outcome.text.as_str(), PAIR_REPORT);
     Ok(())
 }

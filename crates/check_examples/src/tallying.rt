@@ -8,7 +8,7 @@ use mask_check::{Label, NotFor, Status, Tally};
 use std::sync::Arc;
 use std::sync::atomic::{AtomicU64, Ordering};
 use std::test::Fail;
-use tallies::{ByItem, BySize};
+use tallies::BySize;
 
 // A check in which the tuple of both output shares fails, and no other.
 const PAIR: [&str; 3] = ["sni", "2", "--tallies"];
@@ -67,35 +67,6 @@ fn caller_keeps_its_tallies(rt: HostRuntime) -> Result<(), Fail> {
     assert_eq!(rt; drops.load(Ordering::SeqCst), 0);
     drop(tallies);
     assert_eq!(rt; drops.load(Ordering::SeqCst), 1);
-    Ok(())
-}
-
-// The words of the program's two tallies, gadgets, and the reports.
-const REPORTS: [(&[&str], Status, &str); 2] = [
-    (
-        &PAIR,
-        Status::No,
-        "check sni 2\ngadget shares 2 inputs 1 outputs 1 randoms 1 variables 5\nspace items 5 size 2 tuples 16\nfail 2 d0 d1\nverdict no\ntally size 2 1\ntally item d0 1\ntally item d1 1\n",
-    ),
-    // The tuples of both events are counted.
-    (
-        &["rpc", "1", "--size", "3", "--tallies"],
-        Status::Listed,
-        "check rpc 1\ngadget shares 2 inputs 1 outputs 1 randoms 1 variables 5\nspace items 3 size 3 tuples 8\nwires copies 5\nevent rpc d0\nfail 2 a0 a1\nfail 2 a1 r0\ncoefficients 0 0 4 6\nevent rpc d1\nfail 2 a0 a1\nfail 2 a0 r0\ncoefficients 0 0 4 6\ngreatest any 0 0 4 6\ntally size 2 4\ntally item a0 3\ntally item a1 3\ntally item r0 2\n",
-    ),
-];
-
-#[test]
-fn sizes_and_items_of_failing_tuples_are_reported(rt: HostRuntime) -> Result<(), Fail> {
-    let alloc = rt.alloc();
-    for (asked, status, report) in REPORTS {
-        let mut tallies: Vec<Box<dyn Tally>> = Vec::new(alloc);
-        tallies.push(Box::new(alloc, BySize::new())?)?;
-        tallies.push(Box::new(alloc, ByItem::make(alloc)?)?)?;
-        let outcome = check_tallied(&rt, asked, REFRESH, &mut tallies)?;
-        assert_eq!(rt; outcome.status, status, "at {asked:?}");
-        assert_eq!(rt; outcome.text.as_str(), report, "at {asked:?}");
-    }
     Ok(())
 }
 

@@ -1,6 +1,6 @@
-//! Any number of workers, and any size of block, gives one report.
+//! Workers at work at the same time, as a gate sees them.
 
-use crate::fixture::{PAIR_REPORT, REFRESH, check_as, owned};
+use crate::fixture::{PAIR_REPORT, REFRESH, owned};
 use check_workers::minimal;
 use gadget_tree::read_gadget;
 use mask_bytes::{MemSink, SureSource};
@@ -10,40 +10,6 @@ use std::sync::atomic::{AtomicBool, Ordering};
 use std::test::Fail;
 use std::thread::yield_now;
 use wire_table::WireTable;
-
-// A refresh of three shares by two random bits. The inner wire `d0.1`, which is `a0 + r0`, and the second share of the
-// output sum to two shares of the input.
-const THREE_SHARES: &str =
-    "#SHARES 3\n#IN a\n#RANDOMS r0 r1\n#OUT d\nd0 = a0 + r0 + r1\nd1 = a1 + r0\nd2 = a2 + r1\n";
-
-const THREE_SHARES_REPORT: &str =
-    "check sni 2\ngadget shares 3 inputs 1 outputs 1 randoms 2 variables 9\nspace items 9 size 2 tuples 46\nfail 2 d0.1 d1\nverdict no\n";
-
-#[test]
-fn any_workers_and_blocks_give_the_same_report(rt: HostRuntime) -> Result<(), Fail> {
-    for workers in ["1", "2", "7", "64"] {
-        for block in ["1", "3", "65536"] {
-            let asked = [
-                "sni",
-                "2",
-                "--workers",
-                workers,
-                "--block",
-                block,
-                "--words",
-                "4",
-            ];
-            let outcome = check_as(&rt, &asked, THREE_SHARES)?;
-            assert_eq!(rt; outcome.status, Status::No, "{workers} {block}");
-            assert_eq!(rt;
-                outcome.text.as_str(),
-                THREE_SHARES_REPORT,
-                "{workers} {block}"
-            );
-        }
-    }
-    Ok(())
-}
 
 // Keeps each of two workers at its first block until the other one has been at a block.
 #[derive(Drop)]

@@ -59,19 +59,6 @@ fn options_stand_anywhere(rt: HostRuntime) {
 }
 
 #[test]
-fn each_error_comes(rt: HostRuntime) {
-    let alloc = rt.alloc();
-    assert!(rt; of_words(alloc, &["mask", "--help"]) == Err(WordsError::Usage(UsageKind::Words)));
-    assert!(rt; of_words(alloc, &["mask", "RPC", "1"]) == Err(WordsError::Usage(UsageKind::Task)));
-    assert!(rt;
-        of_words(alloc, &["mask", "ni", "7"]) == Err(WordsError::Usage(UsageKind::Argument))
-    );
-    let value = Err(WordsError::Usage(UsageKind::Value(Opt::Workers)));
-    assert!(rt; of_words(alloc, &["mask", "ni", "1", "--workers=+1"]) == value);
-    assert!(rt; of_words(alloc, &["mask", "ni", "1", "--size=2"]) == Err(WordsError::SizeNotUsed));
-}
-
-#[test]
 fn random_probing_has_a_size_and_wires(rt: HostRuntime) {
     let alloc = rt.alloc();
     let words = ["mask", "rpe", "16", "--size=6", "--wires", "plain"];

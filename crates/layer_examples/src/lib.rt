@@ -25,3 +25,5 @@ mod tables;
 mod tallying;
 #[cfg(test)]
 mod tuples;
+#[cfg(test)]
+mod watching;
