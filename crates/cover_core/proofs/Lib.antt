@@ -1,0 +1,25 @@
+pub mod Changing
+pub mod Lists
+pub mod Looked
+pub mod Rises
+pub mod Paths
+pub mod Full
+pub mod Made
+pub mod Good
+pub mod Moved
+pub mod EachKind
+pub mod Seats
+pub mod Runs
+pub mod Law
+pub mod Ends
+pub mod History
+pub mod Showing
+pub mod Answer
+pub mod Sets
+pub mod Seen
+mod Examples
+pub mod Standing
+pub mod Having
+pub mod Storing
+pub mod Stepping
+pub mod Longer
