@@ -1,2 +1,5 @@
-pub mod Passed
-pub mod Blocks
+pub mod Steps
+pub mod Counting
+pub mod Rounds
+pub mod Prefixes
+pub mod Joining

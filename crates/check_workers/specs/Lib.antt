@@ -1,2 +1,2 @@
 -- The theorem of `check` doesn't rest on what follows: proofs and the contracts of inner calls use it.
-pub mod Passes
+pub mod Works

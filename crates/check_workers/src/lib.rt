@@ -1,9 +1,12 @@
-//! The minimal failing tuples of a query, found by several workers.
+//! The minimal failing tuples of a query, found by several workers over one store.
 #![tactic(auto)]
 
 mod gate;
-mod pass;
+mod one;
+mod runs;
+mod serve;
 mod workers;
 
 pub use gate::{Gate, OpenGate};
+pub use one::{Work, work_one};
 pub use workers::minimal;

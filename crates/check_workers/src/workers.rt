@@ -1,86 +1,150 @@
-//! The minimal failing tuples, found by workers that take the blocks of ranks in turn.
+//! The minimal failing tuples, found by workers over one store, in rounds.
 
-ghost use Rattle.std.specs.Prelude.{◌≡◌, ◌↔◌, ℕ, ◌+◌, ◌/◌, ◌<◌, ◌≤◌, List, IfOk, length};
-ghost use Rattle.std.specs.Int.{div_ceil};
+ghost use Rattle.std.specs.Prelude.{◌≡◌, ℕ, ◌+◌, ◌^◌, ◌<◌, ◌≤◌, [], All, IfOk, IsSome, Some, length};
 ghost use Rattle.std.specs.Thread.{IsSync};
-ghost use Rattle.tuple_model.specs.Tuples.{tuples};
-ghost use Rattle.tuple_model.specs.Antichains.{IsAntichain};
-ghost use Rattle.tuple_model.specs.Minimal.{IsAnswer};
-ghost use Rattle.check_workers.specs.Passes.{CoversRanked, IsTaken, IsInRange};
+ghost use Rattle.cover_core.specs.Core.{question_of};
+ghost use Rattle.claim_store.specs.Rule.{asked, full};
+ghost use Rattle.claim_store.specs.Seen.{IsPassOf};
+ghost use Rattle.check_workers.specs.Works.{IsFound, IsLeastPower, IsSomeWhere, RoundEnds, Served};
 
 use crate::gate::Gate;
-use crate::pass::cover_range;
-use antichain_list::Antichain;
+use crate::serve::serve;
+use claim_store::{Closed, Pass, Store};
 use cover_core::Query;
 use mask_bytes::OutOfMemory;
 use std::alloc::Global;
-use std::marker::Brand;
-use std::sync::ledger::{Blank, Ledger};
 use std::thread::{Threads, join};
-use tuple_order::{Range, Steps, count};
+use tuple_order::count;
 
-/// The minimal failing tuples of a query. All tuples are cut into blocks of `block` ranks, which the workers take in
-/// turn: the one with number `w` takes the blocks `w`, `w + workers`, and so on, and calls the gate before each. They
-/// work in threads of their own, as far as threads can be started, and at most as many work as there are blocks.
-/// `first_words` has no effect yet.
+/// The minimal failing tuples of a query. The workers claim blocks of `block` ranks, one after another, and share what
+/// they find; each calls the gate after each claim. They work in threads of their own, as far as threads can be
+/// started, and at most as many work as there are blocks. They work in rounds: where the table becomes full, another
+/// round follows, with an empty table of four times as many words, up to the cap, at which it can't become full.
 pub fn minimal<R: Threads + Sync, Q: Query, G: Gate>(
     rt: &R,
     alloc: Global,
     query: &Q,
     workers: u16,
     block: u64,
-    _first_words: u32,
+    first_words: u32,
     gate: &G,
-) -> Result<Antichain, OutOfMemory>
-    requires workers { 1 ≤ workers }
+) -> Result<Closed, OutOfMemory>
+    requires some_workers { 1 ≤ workers }
+    requires workers { workers ≤ 64 }
     requires block { 1 ≤ block }
-    ensures { IfOk result
-        (IsAnswer (Q.Question.Fails query.now) (Q.Question.items query.now) (Q.Question.size query.now)) }
+    requires some_words { 4 ≤ first_words }
+    requires words { first_words ≤ 67108864 }
+    requires ranks { full Q.Question.items Q.Question.size query.now ≤ 67108864 }
+    ensures { IfOk result (λ closed. IsFound (question_of (Q.Question.items query.now) (Q.Question.size query.now)
+        (Q.Question.Fails query.now)) first_words closed) }
 {
     let ranks = count(query.items(), query.size());
-    let block_count = ranks.div_ceil(block);
-    let working = u64::from(workers).min(block_count) as u16;
-    let blocks = Blocks {
-        ranks,
-        block,
-        workers: working,
-    };
-    merged(rt, alloc, query, blocks, gate, 0, working)
+    let working = u64::from(workers).min(ranks.div_ceil(block)) as u16;
+    let cap = least_power((ranks as u32).max(4));
+    let mut words = least_power(first_words).min(cap);
+    loop {
+        if let Some(closed) = round(rt, alloc, query, working, block, words, gate)? {
+            return Ok(closed);
+        }
+        words = (4 * words).min(cap);
+    }
 }
 
-// How the ranks are cut: into blocks of equally many, of which each worker takes every `workers`th, from the one with
-// its own number on.
-#[derive(Clone, Copy, Drop)]
-struct Blocks {
-    ranks: u64,
-    block: u64,
-    workers: u16,
-    ghost block_has_ranks: { 0 < block },
-    ghost has_workers: { 0 < workers },
+// The least power of two that is at least so much.
+fn least_power(n: u32) -> u32
+    requires { n ≤ 67108864 }
+    ensures power { IsLeastPower n result }
+    ensures small { result ≤ 67108864 }
+{
+    let mut power = 1;
+    while power < n {
+        power *= 2;
+    }
+    power
 }
 
-// The merged lists of the workers from `first` to before `end`. One alone works in this thread.
-#[cycle(workers)]
-fn merged<R: Threads + Sync, Q: Query, G: Gate>(
+// What the workers find with a table of so many words; none where it became full.
+fn round<R: Threads + Sync, Q: Query, G: Gate>(
     rt: &R,
     alloc: Global,
     query: &Q,
-    blocks: Blocks,
+    workers: u16,
+    block: u64,
+    words: u32,
     gate: &G,
-    first: u16,
-    end: u16,
-) -> Result<Antichain, OutOfMemory>
-    requires some { first < end }
-    requires workers { end ≤ blocks.workers }
-    requires ranks { blocks.ranks ≡ length (tuples (Q.Question.items query.now) (Q.Question.size query.now)) }
-    ensures covers { IfOk result (CoversRanked (Q.Question.Fails query.now) (Q.Question.items query.now)
-        (Q.Question.size query.now) (IsTaken blocks.workers blocks.block first end)) }
-    ensures antichain { IfOk result IsAntichain }
+) -> Result<Option<Closed>, OutOfMemory>
+    requires some_workers { 1 ≤ workers }
+    requires workers { workers ≤ 64 }
+    requires block { 1 ≤ block }
+    requires least { 4 ≤ words }
+    requires power { (k : ℕ) × (words ≡ 2 ^ k) }
+    ensures { IfOk result (RoundEnds (question_of (Q.Question.items query.now) (Q.Question.size query.now)
+        (Q.Question.Fails query.now)) words) }
 {
-    if end - first == 1 {
-        return found(alloc, query, blocks, gate, first);
+    let mut scratches = scratches(alloc, query, workers)?;
+    let (store, pass) = Store::open(alloc, query, words)?;
+    let (pass, met_full) = served(
+        rt,
+        &store,
+        query,
+        gate,
+        block,
+        pass,
+        scratches.as_mut_slice(),
+        0,
+    );
+    if met_full {
+        return Ok(None);
     }
-    started(rt, alloc, query, blocks, gate, first, end)
+    Ok(Some(store.close(alloc, pass)?))
+}
+
+// A scratch for each worker, so that none takes memory. Each worker takes its own out.
+fn scratches<Q: Query>(
+    alloc: Global,
+    query: &Q,
+    workers: u16,
+) -> Result<Vec<Option<Q::Scratch>>, OutOfMemory>
+    ensures fit { IfOk result (λ scratches. All (IsSomeWhere (Q.Fits query.now)) scratches.items) }
+    ensures many { IfOk result (λ scratches. length scratches.items ≡ workers) }
+{
+    let mut scratches = Vec::new(alloc);
+    for _ in 0..workers {
+        scratches.push(Some(query.scratch(alloc)?))?;
+    }
+    Ok(scratches)
+}
+
+// The workers of these scratches, numbered from `first`. One alone works in this thread.
+#[cycle(workers)]
+fn served<R: Threads + Sync, Q: Query, G: Gate>(
+    rt: &R,
+    store: &Store<Q>,
+    query: &Q,
+    gate: &G,
+    block: u64,
+    pass: Pass<Q>,
+    scratches: &mut [Option<Q::Scratch>],
+    first: u16,
+) -> (Pass<Q>, bool)
+    requires pass { IsPassOf Q.Question.items Q.Question.size Q.Question.Fails store.now pass }
+    requires idle { pass.view.held ≡ [] }
+    requires query { store.now.facts.query.value ≡ query.now }
+    requires fit { All (IsSomeWhere (Q.Fits query.now)) scratches.old }
+    requires some { 0 < length scratches.old }
+    requires parts { length scratches.old ≤ pass.view.parts }
+    requires numbers { length scratches.old + first ≤ 64 }
+    requires block { 1 ≤ block }
+    ensures kept { IsPassOf Q.Question.items Q.Question.size Q.Question.Fails store.now result.0 }
+    ensures parts { result.0.view.parts ≡ pass.view.parts }
+    ensures served { Served (asked Q.Question.items Q.Question.size Q.Question.Fails store.now.facts)
+        store.now.facts.width result.1 result.0.view }
+{
+    if scratches.len() == 1 {
+        let scratch = taken(&mut scratches[0]);
+        return serve(store, query, gate, block, pass, scratch, first);
+    }
+    started(rt, store, query, gate, block, pass, scratches, first)
 }
 
 // The same with each worker in a thread of its own, or in this one where none can be started. This thread starts them
@@ -88,77 +152,138 @@ fn merged<R: Threads + Sync, Q: Query, G: Gate>(
 #[cycle(workers)]
 fn started<R: Threads + Sync, Q: Query, G: Gate>(
     rt: &R,
-    alloc: Global,
+    store: &Store<Q>,
     query: &Q,
-    blocks: Blocks,
     gate: &G,
+    block: u64,
+    mut pass: Pass<Q>,
+    scratches: &mut [Option<Q::Scratch>],
     first: u16,
-    end: u16,
-) -> Result<Antichain, OutOfMemory>
-    requires some { first < end }
-    requires workers { end ≤ blocks.workers }
-    requires ranks { blocks.ranks ≡ length (tuples (Q.Question.items query.now) (Q.Question.size query.now)) }
-    ensures covers { IfOk result (CoversRanked (Q.Question.Fails query.now) (Q.Question.items query.now)
-        (Q.Question.size query.now) (IsTaken blocks.workers blocks.block first end)) }
-    ensures antichain { IfOk result IsAntichain }
+) -> (Pass<Q>, bool)
+    requires pass { IsPassOf Q.Question.items Q.Question.size Q.Question.Fails store.now pass }
+    requires idle { pass.view.held ≡ [] }
+    requires query { store.now.facts.query.value ≡ query.now }
+    requires fit { All (IsSomeWhere (Q.Fits query.now)) scratches.old }
+    requires some { 0 < length scratches.old }
+    requires parts { length scratches.old ≤ pass.view.parts }
+    requires numbers { length scratches.old + first ≤ 64 }
+    requires block { 1 ≤ block }
+    ensures kept { IsPassOf Q.Question.items Q.Question.size Q.Question.Fails store.now result.0 }
+    ensures parts { result.0.view.parts ≡ pass.view.parts }
+    ensures served { Served (asked Q.Question.items Q.Question.size Q.Question.Fails store.now.facts)
+        store.now.facts.width result.1 result.0.view }
 {
-    if end - first == 1 {
-        return found_in_thread(rt, alloc, query, blocks, gate, first);
+    if scratches.len() == 1 {
+        let scratch = taken(&mut scratches[0]);
+        return served_in_thread(rt, store, query, gate, block, pass, scratch, first);
     }
-    let middle = first + in_new_thread(end - first);
-    let (low, high) = join(
+    let few = in_new_thread(scratches.len());
+    let rest = scratches.len() - few;
+    let next = first + few as u16;
+    let rest_pass = store.split(&mut pass, rest as u16);
+    let (low, high) = scratches.split_at_mut(few);
+    let (one, other) = join(
         rt,
-        || -> Result<Antichain, OutOfMemory>
-            requires { IsSync R.row × IsSync Q.row × IsSync G.row × (first < middle) × (middle ≤ blocks.workers)
-                × (blocks.ranks ≡ length (tuples (Q.Question.items query.now) (Q.Question.size query.now))) }
-            ensures { IfOk result (CoversRanked (Q.Question.Fails query.entry.now) (Q.Question.items query.entry.now)
-                (Q.Question.size query.entry.now) (IsTaken blocks.workers blocks.block first middle)) }
-        { merged(rt, alloc, query, blocks, gate, first, middle) },
-        || -> Result<Antichain, OutOfMemory>
-            requires { IsSync R.row × IsSync Q.row × IsSync G.row × (middle < end) × (end ≤ blocks.workers)
-                × (blocks.ranks ≡ length (tuples (Q.Question.items query.now) (Q.Question.size query.now))) }
-            ensures { IfOk result (CoversRanked (Q.Question.Fails query.entry.now) (Q.Question.items query.entry.now)
-                (Q.Question.size query.entry.now) (IsTaken blocks.workers blocks.block middle end)) }
-        { started(rt, alloc, query, blocks, gate, middle, end) },
+        || -> (Pass<Q>, bool)
+            requires sync { IsSync R.row × IsSync Q.row × IsSync G.row }
+            requires pass { IsPassOf Q.Question.items Q.Question.size Q.Question.Fails store.now pass }
+            requires idle { pass.view.held ≡ [] }
+            requires query { store.now.facts.query.value ≡ query.now }
+            requires fit { All (IsSomeWhere (Q.Fits query.now)) low.now }
+            requires some { 0 < length low.now }
+            requires parts { length low.now ≤ pass.view.parts }
+            requires numbers { length low.now + first ≤ 64 }
+            requires block { 1 ≤ block }
+            ensures kept { IsPassOf Q.Question.items Q.Question.size Q.Question.Fails store.entry.now result.0 }
+            ensures parts { result.0.view.parts ≡ pass.view.parts }
+            ensures served { Served (asked Q.Question.items Q.Question.size Q.Question.Fails store.entry.now.facts)
+                store.entry.now.facts.width result.1 result.0.view }
+        { served(rt, store, query, gate, block, pass, low, first) },
+        || -> (Pass<Q>, bool)
+            requires sync { IsSync R.row × IsSync Q.row × IsSync G.row }
+            requires pass { IsPassOf Q.Question.items Q.Question.size Q.Question.Fails store.now rest_pass }
+            requires idle { rest_pass.view.held ≡ [] }
+            requires query { store.now.facts.query.value ≡ query.now }
+            requires fit { All (IsSomeWhere (Q.Fits query.now)) high.now }
+            requires some { 0 < length high.now }
+            requires parts { length high.now ≤ rest_pass.view.parts }
+            requires numbers { length high.now + next ≤ 64 }
+            requires block { 1 ≤ block }
+            ensures kept { IsPassOf Q.Question.items Q.Question.size Q.Question.Fails store.entry.now result.0 }
+            ensures parts { result.0.view.parts ≡ rest_pass.view.parts }
+            ensures served { Served (asked Q.Question.items Q.Question.size Q.Question.Fails store.entry.now.facts)
+                store.entry.now.facts.width result.1 result.0.view }
+        { started(rt, store, query, gate, block, rest_pass, high, next) },
     );
-    let mut list = low?;
-    list.merge(&high?)?;
-    Ok(list)
+    together(store, one, other)
 }
 
-// What one worker finds in a new thread, for which this one waits.
-fn found_in_thread<R: Threads + Sync, Q: Query, G: Gate>(
-    rt: &R,
-    alloc: Global,
-    query: &Q,
-    blocks: Blocks,
-    gate: &G,
-    worker: u16,
-) -> Result<Antichain, OutOfMemory>
-    requires worker { worker < blocks.workers }
-    requires ranks { blocks.ranks ≡ length (tuples (Q.Question.items query.now) (Q.Question.size query.now)) }
-    ensures covers { IfOk result (CoversRanked (Q.Question.Fails query.now) (Q.Question.items query.now)
-        (Q.Question.size query.now) (IsTaken blocks.workers blocks.block worker (worker + 1))) }
-    ensures antichain { IfOk result IsAntichain }
+// Two passes as one, and whether either met a full table.
+fn together<Q: Query>(
+    store: &Store<Q>,
+    one: (Pass<Q>, bool),
+    other: (Pass<Q>, bool),
+) -> (Pass<Q>, bool)
+    requires one { IsPassOf Q.Question.items Q.Question.size Q.Question.Fails store.now one.0 }
+    requires other { IsPassOf Q.Question.items Q.Question.size Q.Question.Fails store.now other.0 }
+    requires one_served { Served (asked Q.Question.items Q.Question.size Q.Question.Fails store.now.facts)
+        store.now.facts.width one.1 one.0.view }
+    requires other_served { Served (asked Q.Question.items Q.Question.size Q.Question.Fails store.now.facts)
+        store.now.facts.width other.1 other.0.view }
+    ensures kept { IsPassOf Q.Question.items Q.Question.size Q.Question.Fails store.now result.0 }
+    ensures parts { result.0.view.parts ≡ one.0.view.parts + other.0.view.parts }
+    ensures served { Served (asked Q.Question.items Q.Question.size Q.Question.Fails store.now.facts)
+        store.now.facts.width result.1 result.0.view }
 {
-    let (list, _none) = join(
+    let (mut whole, one_full) = one;
+    let (back, other_full) = other;
+    store.join(&mut whole, back);
+    (whole, one_full || other_full)
+}
+
+// One worker in a new thread, for which this one waits.
+fn served_in_thread<R: Threads + Sync, Q: Query, G: Gate>(
+    rt: &R,
+    store: &Store<Q>,
+    query: &Q,
+    gate: &G,
+    block: u64,
+    pass: Pass<Q>,
+    scratch: Q::Scratch,
+    worker: u16,
+) -> (Pass<Q>, bool)
+    requires pass { IsPassOf Q.Question.items Q.Question.size Q.Question.Fails store.now pass }
+    requires idle { pass.view.held ≡ [] }
+    requires query { store.now.facts.query.value ≡ query.now }
+    requires scratch { Q.Fits query.now scratch }
+    requires block { 1 ≤ block }
+    ensures kept { IsPassOf Q.Question.items Q.Question.size Q.Question.Fails store.now result.0 }
+    ensures parts { result.0.view.parts ≡ pass.view.parts }
+    ensures served { Served (asked Q.Question.items Q.Question.size Q.Question.Fails store.now.facts)
+        store.now.facts.width result.1 result.0.view }
+{
+    let (served, _none) = join(
         rt,
-        || -> Result<Antichain, OutOfMemory>
-            requires { IsSync Q.row × IsSync G.row × (worker < blocks.workers)
-                × (blocks.ranks ≡ length (tuples (Q.Question.items query.now) (Q.Question.size query.now))) }
-            ensures { IfOk result (CoversRanked (Q.Question.Fails query.entry.now) (Q.Question.items query.entry.now)
-                (Q.Question.size query.entry.now) (IsTaken blocks.workers blocks.block worker (worker + 1)))
-                × IfOk result IsAntichain }
-        { found(alloc, query, blocks, gate, worker) },
+        || -> (Pass<Q>, bool)
+            requires sync { IsSync Q.row × IsSync G.row }
+            requires pass { IsPassOf Q.Question.items Q.Question.size Q.Question.Fails store.now pass }
+            requires idle { pass.view.held ≡ [] }
+            requires query { store.now.facts.query.value ≡ query.now }
+            requires scratch { Q.Fits query.now scratch }
+            requires block { 1 ≤ block }
+            ensures kept { IsPassOf Q.Question.items Q.Question.size Q.Question.Fails store.entry.now result.0 }
+            ensures parts { result.0.view.parts ≡ pass.view.parts }
+            ensures served { Served (asked Q.Question.items Q.Question.size Q.Question.Fails store.entry.now.facts)
+                store.entry.now.facts.width result.1 result.0.view }
+        { serve(store, query, gate, block, pass, scratch, worker) },
         || {},
     );
-    list
+    served
 }
 
 // How many of so many workers begin in a new thread. One thread starts a few, one by one, since a system puts each on a
-// processor of its own, where those that two threads start at once may share one for some milliseconds. Of more workers
-// half begin there, so that lists are merged with lists as long as they are.
-fn in_new_thread(workers: u16) -> u16
+// processor of its own, where those that two threads start at once may share one for some milliseconds.
+fn in_new_thread(workers: usize) -> usize
     requires { 1 < workers }
     ensures some { 0 < result }
     ensures fewer { result < workers }
@@ -166,59 +291,10 @@ fn in_new_thread(workers: u16) -> u16
     if workers <= 8 { 1 } else { workers / 2 }
 }
 
-// What one worker finds, with a counter of its own.
-fn found<Q: Query, G: Gate>(
-    alloc: Global,
-    query: &Q,
-    blocks: Blocks,
-    gate: &G,
-    worker: u16,
-) -> Result<Antichain, OutOfMemory>
-    requires worker { worker < blocks.workers }
-    requires ranks { blocks.ranks ≡ length (tuples (Q.Question.items query.now) (Q.Question.size query.now)) }
-    ensures covers { IfOk result (CoversRanked (Q.Question.Fails query.now) (Q.Question.items query.now)
-        (Q.Question.size query.now) (IsTaken blocks.workers blocks.block worker (worker + 1))) }
-    ensures antichain { IfOk result IsAntichain }
+// What is there, which leaves the place.
+fn taken<S>(place: &mut Option<S>) -> S
+    requires { IsSome place.old }
+    ensures { place.old ≡ Some result }
 {
-    found_counted::<Q, G, Brand>(alloc, query, blocks, gate, worker, Blank::new(1))
-}
-
-// The scratch, the list and the counter are made in the worker's own thread, and no other thread writes beside them.
-fn found_counted<Q: Query, G: Gate, L: Ledger>(
-    alloc: Global,
-    query: &Q,
-    blocks: Blocks,
-    gate: &G,
-    worker: u16,
-    blank: Blank,
-) -> Result<Antichain, OutOfMemory>
-    requires name { blank.name ≡ L.name }
-    requires parts { blank.parts ≡ L.parts }
-    requires one { blank.parts ≡ 1 }
-    requires worker { worker < blocks.workers }
-    requires ranks { blocks.ranks ≡ length (tuples (Q.Question.items query.now) (Q.Question.size query.now)) }
-    ensures covers { IfOk result (CoversRanked (Q.Question.Fails query.now) (Q.Question.items query.now)
-        (Q.Question.size query.now) (IsTaken blocks.workers blocks.block worker (worker + 1))) }
-    ensures antichain { IfOk result IsAntichain }
-{
-    let (book, share) = blank.open::<L>();
-    let mut steps = Steps::make(book, share);
-    let mut scratch = query.scratch(alloc)?;
-    let mut list = Antichain::new(alloc);
-    let block_count = blocks.ranks.div_ceil(blocks.block);
-    for number in (u64::from(worker)..block_count).step_by(usize::from(blocks.workers)) {
-        let range = range_of(blocks, number);
-        gate.at_block(worker, range.from);
-        cover_range(query, &mut scratch, range, &mut steps, &mut list)?;
-    }
-    Ok(list)
-}
-
-// The ranks of a block: those that give its number when they are divided by how many ranks a block has.
-fn range_of(blocks: Blocks, number: u64) -> Range
-    requires block { number < div_ceil blocks.ranks blocks.block }
-    ensures ranks { (rank : ℕ) → rank < blocks.ranks → IsInRange result rank ↔ (rank / blocks.block ≡ number) }
-    ensures within { result.to ≤ blocks.ranks }
-{
-    Range::of_block(number, blocks.block, blocks.ranks)
+    place.take().unwrap()
 }

@@ -53,14 +53,22 @@ IsReady-by s true e formed = record {
   small = formed.small;
   notion_size = λ n h. refl;
   some_workers = formed.some_workers;
+  few_workers = formed.few_workers;
   some_block = formed.some_block;
+  few_tuples = formed.few_tuples;
+  some_words = formed.some_words;
+  few_words = formed.few_words;
   check = refl;
 }
 IsReady-by s false e formed = record {
   small = formed.small;
   notion_size = λ n h. formed.notion_size (leaks-from_notion s.task n h) e;
   some_workers = formed.some_workers;
+  few_workers = formed.few_workers;
   some_block = formed.some_block;
+  few_tuples = formed.few_tuples;
+  some_words = formed.some_words;
+  few_words = formed.few_words;
   check = e;
 }
 

@@ -13,6 +13,7 @@ use Rattle.rp_events.specs.Events.{Event}
 use Rattle.rp_events.specs.declared.rp.Rp.{Rp}
 use Rattle.rp_events.specs.declared.rp.RpError.{RpError}
 use Rattle.rp_events.specs.declared.rp.RpError.TheVariants as event_errors
+use Rattle.mask_words.specs.Options.{least_words, most_budget, most_words, most_workers}
 use Rattle.mask_words.specs.declared.answer.Settings.{Settings}
 use Rattle.report.specs.Additions.{AreAmong}
 use Rattle.report.specs.declared.status.NotFor.TheVariants.{SeveralOutputs, ManyInputs, OrderTooLarge, ManyEvents}
@@ -34,7 +35,11 @@ pub record IsReady (s : Settings) : Type 0 where
   pub small : s.size ≤ most_size
   pub notion_size : (n : NotionKind) → asked_by s.task ≡ Notion n → s.size ≡ s.t
   pub some_workers : 1 ≤ s.workers
+  pub few_workers : s.workers ≤ most_workers
   pub some_block : 1 ≤ s.block
+  pub few_tuples : s.budget ≤ most_budget
+  pub some_words : least_words ≤ s.words
+  pub few_words : s.words ≤ most_words
   pub check : is_demo s.task ≡ false
 
 -- nothing was read; or the check reads its file, and no more was read than a file may have and one byte
@@ -95,7 +100,7 @@ pub record AnswersUntallied
 
 -- an answer as its question's, of code
 abbrev pub answer_of : code.QuestionAnswer → QuestionAnswer
-answer_of answer = record { failing = answer.failing; coefficients = answer.coefficients.items }
+answer_of answer = record { failing = answer.found.live; coefficients = answer.coefficients.items }
 
 -- the answer to the question of a notion, which has no coefficients
 abbrev pub answer_of_notion : List (List ℕ) → QuestionAnswer

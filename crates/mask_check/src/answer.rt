@@ -9,8 +9,8 @@ ghost use Rattle.mask_check.specs.Decisions.{Decides, Declines, IsReady};
 use crate::asked::{Asked, asked_by};
 use crate::leaking_answer::leaking_answer;
 use crate::notion_answer::notion_answer;
-use antichain_list::Antichain;
 use check_workers::Gate;
+use claim_store::Closed;
 use gadget_tree::Gadget;
 use mask_words::Settings;
 use report::{Report, Status};
@@ -31,8 +31,8 @@ pub(crate) struct Answer {
 /// The answer to one question that a check asks.
 #[derive(Drop)]
 pub(crate) struct QuestionAnswer {
-    /// The minimal failing tuples.
-    pub failing: Antichain,
+    /// The store, with the minimal failing tuples.
+    pub found: Closed,
     /// For an event: for each size, how many sets of so many wires fail. For a notion there are none.
     pub coefficients: Vec<u128>,
 }

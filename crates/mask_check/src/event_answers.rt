@@ -1,10 +1,11 @@
 //! The answers to the questions of events, and their lines.
 
-ghost use Rattle.std.specs.Prelude.{◌≡◌, ◌++◌, All, IfOk, OnOk, map};
+ghost use Rattle.std.specs.Prelude.{◌≡◌, ◌≤◌, ◌*◌, ◌++◌, All, IfOk, OnOk, length, map};
 ghost use Rattle.wire_table.specs.Tables.{StandsFor};
 ghost use Rattle.wire_table.specs.CodeItems.{item_of};
 ghost use Rattle.rp_events.specs.Questions.{IsEventOf, event_of};
-ghost use Rattle.mask_check.specs.Questions.{IsAnswerTo, items};
+ghost use Rattle.mask_words.specs.Options.{most_budget};
+ghost use Rattle.mask_check.specs.Questions.{IsAnswerTo, items, tuple_count};
 ghost use Rattle.mask_check.specs.Report.{answer_lines, question_lines};
 ghost use Rattle.mask_check.specs.Decisions.{answer_of, event_question, event_questions, AreAnswersTo};
 ghost use Rattle.mask_check.specs.Decisions.{IsLeaking, IsOfItems, IsReady};
@@ -36,6 +37,7 @@ pub(crate) fn event_answers<R: Threads + Sync, G: Gate>(
     requires settings { IsReady settings.now }
     requires leaking { IsLeaking settings.now }
     requires events { All (IsEventOf gadget.now) (map event_of events.now) }
+    requires few { tuple_count settings.now gadget.now * length events.now ≤ most_budget }
     ensures { IfOk result (λ answers.
         AreAnswersTo settings.now gadget.now (map event_of events.now) (map answer_of answers.items)) }
 {
@@ -60,6 +62,7 @@ fn event_answer<R: Threads + Sync, G: Gate>(
     requires settings { IsReady settings.now }
     requires leaking { IsLeaking settings.now }
     requires event { IsEventOf gadget.now (event_of event.now) }
+    requires few { tuple_count settings.now gadget.now ≤ most_budget }
     ensures { IfOk result (λ answer.
         IsAnswerTo settings.now gadget.now (event_question settings.now (event_of event.now)) (answer_of answer)) }
 {
@@ -72,7 +75,7 @@ fn event_answer<R: Threads + Sync, G: Gate>(
         settings.size,
         settings.wires,
     )?;
-    let failing = minimal(
+    let found = minimal(
         rt,
         alloc,
         &query,
@@ -81,9 +84,9 @@ fn event_answer<R: Threads + Sync, G: Gate>(
         settings.words,
         gate,
     )?;
-    let coefficients = coefficients(rt, alloc, query.list(), &failing, settings.size)?;
+    let coefficients = coefficients(rt, alloc, query.list(), found.live(), settings.size)?;
     Ok(QuestionAnswer {
-        failing,
+        found,
         coefficients,
     })
 }
@@ -119,7 +122,7 @@ fn add_event(
         (event_question settings.now (event_of event.now)) (answer_of answer.now)) }
 {
     report.event(&event.name)?;
-    report.fails(items, &answer.failing)?;
+    report.fails(items, answer.found.live())?;
     report.coefficients(&answer.coefficients)?;
     Ok(())
 }

@@ -53,7 +53,7 @@ pub(crate) fn notion_answer<R: Threads + Sync, G: Gate>(
     if tuples > settings.budget {
         return Err(Status::Budget(tuples));
     }
-    let failing = minimal(
+    let found = minimal(
         rt,
         alloc,
         &query,
@@ -62,9 +62,9 @@ pub(crate) fn notion_answer<R: Threads + Sync, G: Gate>(
         settings.words,
         gate,
     )?;
-    let mut answer = verdict(alloc, gadget, settings, query.list(), tuples, &failing)?;
+    let mut answer = verdict(alloc, gadget, settings, query.list(), tuples, found.live())?;
     let answers = [QuestionAnswer {
-        failing,
+        found,
         coefficients: Vec::new(alloc),
     }];
     tally(

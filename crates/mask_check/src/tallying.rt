@@ -49,7 +49,7 @@ fn feed_answers(answers: &[QuestionAnswer], tallies: &mut Vec<Box<dyn Tally>>)
 {
     for (event, answer) in answers.iter().enumerate() {
         let event = u32::try_from(event).unwrap_or(u32::MAX);
-        feed_answer(event, &answer.failing, tallies);
+        feed_answer(event, answer.found.live(), tallies);
     }
 }
 

@@ -2,7 +2,7 @@
 use Rattle.std.specs.Prelude.{◌≡◌, ◌≢◌, ◌≤◌, ◌+◌, true, false, Result, Ok, Err, MatchResult}
 use Rattle.gadget_maker.specs.Limits.{least_demo_shares, most_demo_shares}
 use Rattle.mask_terms.specs.Tasks.{is_demo, leaks}
-use Rattle.mask_words.specs.Options.{least_block, least_workers, most_order, most_workers}
+use Rattle.mask_words.specs.Options.{least_block, least_words, least_workers, most_budget, most_order, most_words, most_workers}
 use Rattle.mask_words.specs.Settings.{greatest_order}
 use Rattle.mask_words.specs.declared.answer.Settings.{Settings}
 use Rattle.mask_words.specs.declared.answer.WordsError.{WordsError}
@@ -26,3 +26,6 @@ pub record IsWellFormed (s : Settings) : Type 0 where
   pub some_workers : least_workers ≤ s.workers
   pub few_workers : s.workers ≤ most_workers
   pub some_block : least_block ≤ s.block
+  pub few_tuples : s.budget ≤ most_budget
+  pub some_words : least_words ≤ s.words
+  pub few_words : s.words ≤ most_words

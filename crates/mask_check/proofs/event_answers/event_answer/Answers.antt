@@ -18,9 +18,10 @@ returns g c =
     let s = c.args.settings.now in
     let q = c.in_ok-query.query in
     let leaking = c.requires.leaking in
-    let answer : QuestionAnswer = record { failing = c.in_ok-failing.failing; coefficients = c.in_ok-coefficients.coefficients.items } in
+    let answer : QuestionAnswer = record { failing = c.in_ok-found.found.live; coefficients = c.in_ok-coefficients.coefficients.items } in
     let P : List Item → ℕ → Type 0 = λ of size. AreCoefficients (Covers answer.failing) (weights_of of) size answer.coefficients in
+    let R : List (List ℕ) → Type 0 = λ failing. AreCoefficients (Covers failing) (weights_of (map item_of c.list.result.now)) s.size answer.coefficients in
     let sized : q.size ≡ s.size = ap (λ (p : EventQuestion). p.size) c.in_ok-query.ensures in
     IsAnswerTo-event s c.args.gadget.now c.args.table.now (event_of c.args.event.now) leaking.0 leaking.1 q c.in_ok-query.ensures answer
-    c.in_ok-failing.ensures
-    (subst (P (leaking_items q)) (sym sized) (subst (λ (of : List Item). P of s.size) c.list.ensures.items c.in_ok-coefficients.ensures))
+    c.in_ok-found.ensures.answer
+    (subst (P (leaking_items q)) (sym sized) (subst (λ (of : List Item). P of s.size) c.list.ensures.items (subst R c.live.ensures c.in_ok-coefficients.ensures)))

@@ -1,4 +1,4 @@
-use Rattle.std.proofs.Common.{◌≡◌, ◌+◌, List, map, take}
+use Rattle.std.proofs.Common.{◌≡◌, ◌+◌, List, map, take, sym}
 use Rattle.mask_check.specs.Decisions.{answer_of}
 use Rattle.mask_check.specs.Tallying.{printed, state_of}
 use Rattle.mask_check.proofs.Feeding.{fed_nothing, fed_more, parts_more}
@@ -16,4 +16,4 @@ loop-event-preserved g c =
     fed_more _ _ _ (printed (map answer_of (take i answers))) _ (printed (map answer_of (take (i + 1) answers)))
     (parts_more (λ answer. answer.failing) answer_of answers i c.index-answers-event.result c.loop-event-test.true
     c.index-answers-event.is)
-    c.loop-event.invariant c.feed_answer.ensures
+    c.loop-event.invariant (rw (sym c.live.ensures) c.feed_answer.ensures)
