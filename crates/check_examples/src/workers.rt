@@ -2,6 +2,7 @@
 
 use crate::fixture::{PAIR_REPORT, REFRESH, owned};
 use check_workers::minimal;
+use cover_core::Query;
 use gadget_tree::read_gadget;
 use mask_bytes::{MemSink, SureSource};
 use mask_check::{Gate, Status, check};
@@ -9,6 +10,7 @@ use notions::{Notion, NotionQuery};
 use std::sync::atomic::{AtomicBool, Ordering};
 use std::test::Fail;
 use std::thread::yield_now;
+use tuple_order::count;
 use wire_table::WireTable;
 
 // Keeps each of two workers at its first block until the other one has been at a block.
@@ -86,10 +88,11 @@ fn two_workers_of_a_query_meet(rt: HostRuntime) -> Result<(), Fail> {
     let gadget = read_gadget(alloc, REFRESH.as_bytes())?;
     let table = WireTable::make(alloc, &gadget)?;
     let query = NotionQuery::make(alloc, &gadget, &table, Notion::Sni, 2)?;
+    assert!(rt; count(query.items(), query.size()) <= 67_108_864);
     let gate = Meeting::new();
     let found = minimal(&rt, alloc, &query, 2, 1, 65536, &gate)?;
     assert!(rt; gate.is_met());
-    assert_eq!(rt; found.len(), 1);
-    assert_eq!(rt; found.tuple(0).items(), [3, 4].as_slice());
+    assert_eq!(rt; found.live().len(), 1);
+    assert_eq!(rt; found.live().tuple(0).items(), [3, 4].as_slice());
     Ok(())
 }

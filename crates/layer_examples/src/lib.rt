@@ -10,13 +10,9 @@ mod command_lines;
 #[cfg(test)]
 mod demonstrations;
 #[cfg(test)]
-mod gates;
-#[cfg(test)]
 mod kernels;
 #[cfg(test)]
 mod polynomials;
-#[cfg(test)]
-mod queries;
 #[cfg(test)]
 mod statuses;
 #[cfg(test)]
@@ -25,5 +21,3 @@ mod tables;
 mod tallying;
 #[cfg(test)]
 mod tuples;
-#[cfg(test)]
-mod watching;

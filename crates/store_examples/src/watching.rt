@@ -82,8 +82,8 @@ fn the_gate_is_called_before_the_first_tuple_of_a_block_is_judged(
             is_early: AtomicBool::new(false),
         };
         let query = Watched { watch: &watch };
-        let found = minimal(&rt, rt.alloc(), &query, workers, 2, 4, &watch)?;
-        assert!(rt; found.is_empty());
+        let closed = minimal(&rt, rt.alloc(), &query, workers, 2, 4, &watch)?;
+        assert!(rt; closed.live().is_empty());
         assert_eq!(rt; watch.judged.load(Ordering::SeqCst), 11, "{workers}");
         assert!(rt; !watch.is_early.load(Ordering::SeqCst), "{workers}");
     }
